@@ -1,6 +1,26 @@
 //! The model of the file system: its types, and the definitions that every promise is stated in.
 #![tactic(auto)]
 
+mod bytes;
+mod call;
+mod cell;
+mod checkpoint;
+mod child;
+mod entry;
+mod key;
 mod memory;
+mod name;
+mod path;
+mod reply;
 
+pub use bytes::Octets;
+pub use call::{Call, Calls};
+pub use cell::{Cell, Payload};
+pub use checkpoint::{CkptLine, CkptLines, Counters, Kind, State};
+pub use child::{Child, Children};
+pub use entry::Entry;
+pub use key::Key;
 pub use memory::NoMemory;
+pub use name::NameBytes;
+pub use path::{Path, WalkFault};
+pub use reply::{Reply, SpaceOf};
