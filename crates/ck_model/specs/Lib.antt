@@ -1,2 +1,17 @@
 pub mod Name
 pub mod Path
+pub mod Key
+pub mod Refusals
+pub mod Cells
+pub mod Walk
+pub mod Reading
+pub mod Changes
+pub mod World
+pub mod Space
+pub mod Streams
+pub mod Changing
+pub mod Freezing
+pub mod Reporting
+pub mod Step
+pub mod History
+pub mod Laws

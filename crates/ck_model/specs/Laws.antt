@@ -1,0 +1,52 @@
+-- What follows of the definitions alone.
+use Rattle.std.specs.Prelude.{◌≡◌, ◌≤◌, ℕ, ◌+◌, Bool, true, false, List, [], ◌∷◌, Option, Some, None, nat_eq, if◌then◌else◌, find}
+use Rattle.std.specs.List.{AllByRecursion}
+use Rattle.std.specs.Option.{option_map, option_or, option_map_or}
+use Rattle.std.specs.FinMap as map
+use Rattle.ck_model.specs.declared.key.Key.{Key}
+use Rattle.ck_model.specs.declared.entry.Entry.{Entry}
+use Rattle.ck_model.specs.declared.reply.Reply.{Reply}
+use Rattle.ck_model.specs.declared.reply.Reply.TheVariants.{Created}
+use Rattle.ck_model.specs.Cells.{Cells, differs}
+use Rattle.ck_model.specs.World.{World, Checkpoint, has_id, shown_by}
+use Rattle.ck_model.specs.Streams.{Texts, image, changed, applied}
+use Rattle.ck_model.specs.History.{Past, CallsBy, begun, past_after, IsLegal, state, created_id}
+
+-- the ids of these checkpoints rise from this number on, and are below the next id
+abbrev pub IdsRise : ℕ → List Checkpoint → ℕ → Type 0
+IdsRise least [] next = least ≤ next
+IdsRise least (checkpoint ∷ newer) next = (least ≤ checkpoint.id) × IdsRise (checkpoint.id + 1) newer next
+
+-- the checkpoints stand by their ids, and a nodata one has marks in place of blocks
+pub record IsWorld (w : World) : Type 0 where
+  pub ids : IdsRise 1 w.checkpoints w.next.id
+  pub marks : AllByRecursion (λ checkpoint. shown_by checkpoint.kind checkpoint.cells ≡ checkpoint.cells) w.checkpoints
+
+-- the primary map at the entry that created the checkpoint with this id
+abbrev pub frozen_from : Texts → CallsBy → Past → List Entry → ℕ → Option Cells
+frozen_from texts calls past [] id = None
+frozen_from texts calls past (entry ∷ entries) id =
+    if option_map_or (nat_eq id) (created_id entry.reply) false
+    then Some past.world.primary
+    else frozen_from texts calls (past_after texts calls past entry) entries id
+
+-- the map that was frozen under this id: a checkpoint's of the world at the beginning, or of one created since
+abbrev pub frozen : Texts → CallsBy → World → List Entry → ℕ → Option Cells
+frozen texts calls w history id =
+    option_or (option_map (λ checkpoint. checkpoint.cells) (find (has_id id) w.checkpoints)) (frozen_from texts calls (begun w) history id)
+
+-- a checkpoint that stands has the map that was frozen under its id, with marks in place of blocks where it is nodata
+abbrev pub FrozenMapsStay : Type 0
+FrozenMapsStay =
+    (texts : Texts) (calls : CallsBy) (w : World) (history : List Entry) → IsWorld w → IsLegal texts calls w history →
+    AllByRecursion
+    (λ checkpoint. option_map (shown_by checkpoint.kind) (frozen texts calls w history checkpoint.id) ≡ Some checkpoint.cells)
+    (state texts calls w history).checkpoints
+
+-- in maps of one history, equal stamps at a key mean that it holds the same
+abbrev pub OfOneHistory : Cells → Cells → Type 0
+OfOneHistory a b = (key : Key) → differs (map.get a key) (map.get b key) ≡ false → map.get a key ≡ map.get b key
+
+-- what changed from one map to another, applied to the first one's image, gives the second one's
+abbrev pub ChangesApply : Type 0
+ChangesApply = (a b : Cells) → OfOneHistory a b → applied (image a) (changed a b) ≡ image b
