@@ -1,6 +1,7 @@
 pub mod Name
 pub mod Path
 pub mod Key
+pub mod Ordered
 pub mod Refusals
 pub mod Cells
 pub mod Walk

@@ -9,7 +9,7 @@ use Rattle.ck_model.specs.declared.reply.Reply.TheVariants.{NoSpace}
 use Rattle.ck_model.specs.declared.reply.SpaceOf.TheVariants.{Blocks, Records}
 use Rattle.ck_model.specs.Key.{is_block}
 use Rattle.ck_model.specs.Cells.{Cells, differs, differences}
-use Rattle.ck_model.specs.World.{World, Checkpoint, Limits, keeps_files, without_checkpoint}
+use Rattle.ck_model.specs.World.{World, Checkpoint, keeps_files, without_checkpoint}
 
 -- the map of the oldest of these checkpoints, or else the primary's: of a checkpoint, the next newer map
 abbrev pub next_cells : Cells → List Checkpoint → Cells

@@ -9,6 +9,7 @@ use Rattle.ck_model.specs.declared.cell.Payload.TheVariants.{Dir}
 use Rattle.ck_model.specs.declared.checkpoint.Kind.{Kind}
 use Rattle.ck_model.specs.declared.checkpoint.Kind.TheVariants.{Keeping, Nodata}
 use Rattle.ck_model.specs.declared.checkpoint.Counters.{Counters}
+use Rattle.ck_model.specs.declared.checkpoint.Limits.{Limits}
 use Rattle.ck_model.specs.Cells.{Cells, marked, with_cells}
 use Rattle.ck_model.specs.Changes.{cell_of}
 
@@ -20,12 +21,6 @@ pub record Checkpoint : Type 0 where
   pub removable : Bool
   pub ctime : ℕ
   pub cells : Cells
-
--- how many data blocks and records there are, and how many checkpoints there may be
-pub record Limits : Type 0 where
-  pub blocks : ℕ
-  pub records : ℕ
-  pub checkpoints : ℕ
 
 -- by actor, and then by letter
 abbrev pub mount_cmp : ℕ × ℕ → ℕ × ℕ → Ordering

@@ -4,6 +4,7 @@ ghost use Rattle.std.specs.Cmp.Rules.{comparing};
 ghost use Rattle.std.proofs.Common.{rules};
 
 use crate::NoMemory;
+use std::alloc::AllocError;
 use std::marker::Model;
 
 /// Bytes, as a file or a reply has them.
@@ -44,6 +45,16 @@ impl Octets {
     {
         self.bytes.extend_from_slice(bytes)?;
         Ok(())
+    }
+}
+
+impl Clone for Octets {
+    ghost is_clone = { λ octets copy. copy ≡ octets };
+
+    fn clone(&self) -> Result<Octets, AllocError> {
+        Ok(Octets {
+            bytes: Vec::from_slice(*self.bytes.allocator(), &self.bytes)?,
+        })
     }
 }
 

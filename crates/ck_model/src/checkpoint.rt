@@ -10,6 +10,14 @@ pub enum Kind {
     Nodata,
 }
 
+/// How many data blocks and records a volume has, and how many checkpoints may stand in it.
+#[derive(Clone, Copy, Debug, PartialEq, Eq)]
+pub struct Limits {
+    pub blocks: u32,
+    pub records: u32,
+    pub checkpoints: u32,
+}
+
 /// The numbers that are given next: no stamp, id or file number is ever given twice.
 #[derive(Clone, Copy, Debug, PartialEq, Eq)]
 pub struct Counters {

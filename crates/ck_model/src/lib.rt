@@ -16,7 +16,7 @@ mod reply;
 pub use bytes::Octets;
 pub use call::{Call, Calls};
 pub use cell::{Cell, Payload};
-pub use checkpoint::{CkptLine, CkptLines, Counters, Kind, State};
+pub use checkpoint::{CkptLine, CkptLines, Counters, Kind, Limits, State};
 pub use child::{Child, Children};
 pub use entry::Entry;
 pub use key::Key;

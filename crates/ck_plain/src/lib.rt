@@ -1,0 +1,12 @@
+//! The plain program: the model's worlds with whole copied maps, and every call as the definitions say it. It is
+//! slow and small, and the yardstick of the product's own bodies.
+#![tactic(auto)]
+
+mod cells;
+mod mounts;
+mod ordered;
+mod world;
+
+pub use cells::PlainMap;
+pub use mounts::PlainMounts;
+pub use world::{Plain, PlainCheckpoint};
