@@ -1,3 +1,13 @@
 pub mod Places
 pub mod CellsLemmas
 pub mod StreamsLemmas
+pub mod WorldLemmas
+pub mod SpaceLemmas
+pub mod RefusalsLemmas
+pub mod WalkLemmas
+pub mod ChangingLemmas
+pub mod FreezingLemmas
+pub mod ReportingLemmas
+pub mod StepLemmas
+pub mod HistoryLemmas
+pub mod LawsLemmas

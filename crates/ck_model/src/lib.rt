@@ -21,7 +21,7 @@ pub use checkpoint::{CkptLine, CkptLines, Counters, Kind, Limits, State};
 pub use child::{Child, Children};
 pub use entry::Entry;
 pub use key::Key;
-pub use laws::changes_apply;
+pub use laws::{changes_apply, frozen_maps_stay, worlds_stay};
 pub use memory::NoMemory;
 pub use name::NameBytes;
 pub use path::{Path, WalkFault};
