@@ -1,7 +1,6 @@
 -- What a call that changes files can be refused with, and what it leaves.
 use Rattle.std.proofs.Common.{◌≡◌, ℕ, ◌+◌, ◌&&◌, ◌||◌, List, length, nat_eq, nat_lt, refl}
 use Rattle.ck_model.specs.declared.cell.Payload.{Payload}
-use Rattle.ck_model.specs.declared.reply.Reply.{Reply}
 use Rattle.ck_model.specs.declared.reply.Reply.TheVariants.{IsDir, Root}
 use Rattle.ck_model.specs.World.{World}
 use Rattle.ck_model.specs.Walk.{file_at, directory_at, name_at, new_name_at}

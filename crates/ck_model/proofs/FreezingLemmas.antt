@@ -2,13 +2,12 @@
 use Rattle.std.proofs.Common.{◌≡◌, ℕ, ◌+◌, Bool, true, false, not, List, length, nat_eq, nat_le, find, refl, sym, ap, ◌∙◌, if◌then◌else◌}
 use Rattle.std.specs.List.{list_any}
 use Rattle.std.specs.FinMap as map
-use Rattle.ck_model.specs.declared.reply.Reply.{Reply}
 use Rattle.ck_model.specs.declared.reply.Reply.TheVariants.{NoCkpt, NotMounted, Gone}
-use Rattle.ck_model.specs.Cells.{Cells, marked}
+use Rattle.ck_model.specs.Cells.{marked}
 use Rattle.ck_model.specs.World.{World, Checkpoint, keeps_files, is_named, has_id, shown_by}
 use Rattle.ck_model.specs.Freezing.{kind_of, frozen_world, new_id, checkpoint_named, with_changed, as_nodata, dropped, with_flag, restored, mounted, mounted_id, dismounted, standing, mounted_checkpoint, with_data}
 use Rattle.ck_model.proofs.RefusalsLemmas.{OrOrdinary, Refuses, and_then-ordinary, refuse_if-ordinary, ok_or-ordinary}
-use Rattle.ck_model.proofs.WorldLemmas.{IsLater, IsLater-itself, marked-shown_by, Remain, Remain-itself, Remain-filter, Remain-take, Remain-map, AddsNone, AddsOne}
+use Rattle.ck_model.proofs.WorldLemmas.{IsLater, IsLater-itself, marked-shown_by, Remain-itself, Remain-filter, Remain-take, Remain-map, AddsNone, AddsOne}
 
 -- a checkpoint with the primary map comes behind those that are left
 pub frozen_world-adds : (name : List ℕ) (nodata removable : Bool) (at : ℕ) (w left : World) → AddsNone w left → left.primary ≡ w.primary → AddsOne w (frozen_world name nodata removable at left)

@@ -1,5 +1,5 @@
 -- What a legal entry makes of the checkpoints.
-use Rattle.std.proofs.Common.{◌≡◌, ◌≤◌, ℕ, Bool, true, false, Option, None, Some, IsSomeAnd, MatchOption, MatchBool, refl, sym, subst, if◌then◌else◌}
+use Rattle.std.proofs.Common.{◌≡◌, ◌≤◌, ℕ, true, false, None, Some, IsSomeAnd, MatchOption, MatchBool, refl, sym, subst, if◌then◌else◌}
 use Rattle.std.specs.Option.{option_map_or}
 use Rattle.ck_model.specs.declared.call.Call.{Call}
 use Rattle.ck_model.specs.declared.entry.Entry.{Entry}
@@ -8,7 +8,7 @@ use Rattle.ck_model.specs.declared.reply.Reply.TheVariants.{Created}
 use Rattle.ck_model.specs.World.{World}
 use Rattle.ck_model.specs.Space.{without_picks}
 use Rattle.ck_model.specs.Streams.{Texts}
-use Rattle.ck_model.specs.Step.{Outcome, step}
+use Rattle.ck_model.specs.Step.{step}
 use Rattle.ck_model.specs.History.{Past, CallsBy, IsStepOf, IsLegalAt, IsLegalWhole, IsRefusal, IsLegalNext, is_fault, created_id, world_after, past_after}
 use Rattle.ck_model.proofs.SpaceLemmas.{without_picks-adds}
 use Rattle.ck_model.proofs.StepLemmas.{Adds, step-sound}

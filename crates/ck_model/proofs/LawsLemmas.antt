@@ -1,15 +1,14 @@
 -- What a legal history keeps of a world: the order of ids, marks in nodata checkpoints, and the frozen maps.
-use Rattle.std.proofs.Common.{◌≡◌, ◌≤◌, ◌<◌, ℕ, ◌+◌, Bool, true, false, cond, Option, None, Some, option_map, List, [], ◌∷◌, ◌++◌, find, nat_eq, refl, sym, ap, ◌∙◌, subst, arith, le_refl, eq-eqb, ne_eqb, if◌then◌else◌}
+use Rattle.std.proofs.Common.{◌≡◌, ◌≤◌, ◌<◌, ℕ, ◌+◌, Bool, true, false, Option, None, Some, option_map, List, [], ◌∷◌, ◌++◌, find, nat_eq, refl, sym, ap, ◌∙◌, subst, arith, le_refl, eq-eqb, ne_eqb, if◌then◌else◌}
 use Rattle.std.specs.List.{AllByRecursion}
 use Rattle.std.specs.Option.{option_or, option_map_or}
-use Rattle.std.proofs.lemmas.Bool.Decides.{nat_tests}
 use Rattle.ck_model.specs.declared.entry.Entry.{Entry}
 use Rattle.ck_model.specs.Cells.{Cells}
 use Rattle.ck_model.specs.World.{World, Checkpoint, has_id, shown_by}
 use Rattle.ck_model.specs.Streams.{Texts}
-use Rattle.ck_model.specs.History.{Past, CallsBy, begun, created_id, past_after, past_of, IsLegalFrom, IsLegal, state}
-use Rattle.ck_model.specs.Laws.{IdsRise, IsWorld, frozen_from, frozen, FrozenMapsStay, WorldsStay}
-use Rattle.ck_model.proofs.WorldLemmas.{IsLater, IsLater-itself, Remain, Remain-itself, All-remain, All-append, IdsRise-lower, IdsRise-remain, IdsRise-append, AddsNone, AddsOne, shown_again}
+use Rattle.ck_model.specs.History.{Past, CallsBy, begun, created_id, past_after, past_of, IsLegalFrom}
+use Rattle.ck_model.specs.Laws.{IdsRise, IsWorld, frozen_from, FrozenMapsStay, WorldsStay}
+use Rattle.ck_model.proofs.WorldLemmas.{IsLater, Remain-itself, All-remain, All-append, IdsRise-remain, IdsRise-append, shown_again}
 use Rattle.ck_model.proofs.StepLemmas.{Adds}
 use Rattle.ck_model.proofs.HistoryLemmas.{past_after-adds}
 
@@ -32,9 +31,9 @@ IsWorld-adds w next None h world = record {
 }
 IsWorld-adds w next (Some id) h world =
     let one = h.1 in record {
-  ids = subst (λ cs. IdsRise 1 cs next.next.id) (sym one.checkpoints) (subst (IdsRise 1 (one.left ++ one.new ∷ [])) (sym one.id) (IdsRise-append 1 one.left one.new w.next.id one.own_id (IdsRise-remain one.remain 1 w.next.id world.ids)));
-  marks = subst (AllByRecursion IsShown) (sym one.checkpoints) (All-append IsShown one.left one.new (All-remain IsShown IsShown shown_later one.remain world.marks) (shown_new w one.new one.cells));
-}
+      ids = subst (λ cs. IdsRise 1 cs next.next.id) (sym one.checkpoints) (subst (IdsRise 1 (one.left ++ one.new ∷ [])) (sym one.id) (IdsRise-append 1 one.left one.new w.next.id one.own_id (IdsRise-remain one.remain 1 w.next.id world.ids)));
+      marks = subst (AllByRecursion IsShown) (sym one.checkpoints) (All-append IsShown one.left one.new (All-remain IsShown IsShown shown_later one.remain world.marks) (shown_new w one.new one.cells));
+    }
 
 worlds_stay_from : (texts : Texts) (calls : CallsBy) (past : Past) (history : List Entry) → IsWorld past.world → IsLegalFrom texts calls past history → IsWorld (past_of texts calls past history).world
 worlds_stay_from texts calls past [] world legal = world
@@ -84,11 +83,11 @@ Keeps-adds maps w next (Some new) h keeps =
     let own : now one.new.id ≡ Some w.primary = ap now one.own_id ∙ ap (λ o. option_or o (more w.next.id)) (keeps.unused w.next.id (le_refl w.next.id)) ∙ new_map-own new w.next.id w.primary h.0 in
     record {
       all = subst (AllByRecursion (IsFrozen now)) (sym one.checkpoints)
-        (All-append (IsFrozen now) one.left one.new
-        (All-remain (IsFrozen maps) (IsFrozen now) (frozen_later maps more) one.remain keeps.all)
-        (ap (option_map (shown_by one.new.kind)) own ∙ ap Some one.cells));
+          (All-append (IsFrozen now) one.left one.new
+          (All-remain (IsFrozen maps) (IsFrozen now) (frozen_later maps more) one.remain keeps.all)
+          (ap (option_map (shown_by one.new.kind)) own ∙ ap Some one.cells));
       unused = λ id above. let behind : w.next.id + 1 ≤ id = subst (λ n. n ≤ id) one.id above in
-        ap (λ o. option_or o (more id)) (keeps.unused id (omega arith)) ∙ new_map-other new id w.primary (omega (arith, h.0));
+          ap (λ o. option_or o (more id)) (keeps.unused id (omega arith)) ∙ new_map-other new id w.primary (omega (arith, h.0));
     }
 
 joined : (o p : Option Cells) (b : Bool) (primary : Cells) → option_or (option_or o (if b then Some primary else None)) p ≡ option_or o (if b then Some primary else p)
@@ -123,9 +122,10 @@ own_maps-other c cs id less = ap (λ b. option_map (λ x. x.cells) (if b then So
 -- one more with a lower id leaves the others' maps
 behind_first : (c : Checkpoint) (cs ds : List Checkpoint) (least next : ℕ) → c.id < least → IdsRise least ds next → AllByRecursion (IsFrozen (own_maps cs)) ds → AllByRecursion (IsFrozen (own_maps (c ∷ cs))) ds
 behind_first c cs [] least next low h all = tt
-behind_first c cs (d ∷ ds) least next low h all =
-    (ap (option_map (shown_by d.kind)) (own_maps-other c cs d.id (omega (arith, h.0))) ∙ all.0,
-    behind_first c cs ds (d.id + 1) next (omega (arith, h.0)) h.1 all.1)
+behind_first c cs (d ∷ ds) least next low h all = (
+  ap (option_map (shown_by d.kind)) (own_maps-other c cs d.id (omega (arith, h.0))) ∙ all.0,
+  behind_first c cs ds (d.id + 1) next (omega (arith, h.0)) h.1 all.1,
+)
 
 own_maps-unused : (least : ℕ) (cs : List Checkpoint) (next id : ℕ) → IdsRise least cs next → next ≤ id → own_maps cs id ≡ None
 own_maps-unused least [] next id h above = refl
@@ -135,9 +135,10 @@ own_maps-unused least (c ∷ cs) next id h above =
 
 own_maps-frozen : (least : ℕ) (cs : List Checkpoint) (next : ℕ) → IdsRise least cs next → AllByRecursion IsShown cs → AllByRecursion (IsFrozen (own_maps cs)) cs
 own_maps-frozen least [] next h shown = tt
-own_maps-frozen least (c ∷ cs) next h shown =
-    (ap (option_map (shown_by c.kind)) (own_maps-first c cs) ∙ ap Some shown.0,
-    behind_first c cs cs (c.id + 1) next (omega arith) h.1 (own_maps-frozen (c.id + 1) cs next h.1 shown.1))
+own_maps-frozen least (c ∷ cs) next h shown = (
+  ap (option_map (shown_by c.kind)) (own_maps-first c cs) ∙ ap Some shown.0,
+  behind_first c cs cs (c.id + 1) next (omega arith) h.1 (own_maps-frozen (c.id + 1) cs next h.1 shown.1),
+)
 
 pub frozen_maps_stay_lem : FrozenMapsStay
 frozen_maps_stay_lem texts calls w history world legal =

@@ -1,5 +1,5 @@
 -- What the calls that change nothing can answer: neither a fault nor a new checkpoint's id.
-use Rattle.std.proofs.Common.{◌≡◌, ℕ, Bool, true, false, List, length, nat_lt, refl, if◌then◌else◌}
+use Rattle.std.proofs.Common.{ℕ, true, false, List, length, nat_lt, refl, if◌then◌else◌}
 use Rattle.ck_model.specs.Cells.{Cells, is_directory_at, size_at}
 use Rattle.ck_model.specs.declared.reply.Reply.TheVariants.{StatDir, StatFile}
 use Rattle.ck_model.specs.Reading.{children}

@@ -1,7 +1,7 @@
 -- What the checkpoints that are given up for room leave.
-use Rattle.std.proofs.Common.{◌≡◌, ℕ, zero, suc, Option, Some, None, List, refl, ap}
+use Rattle.std.proofs.Common.{◌≡◌, ℕ, zero, suc, Some, None, List, refl, ap}
 use Rattle.std.specs.Option.{option_map_or}
-use Rattle.ck_model.specs.World.{World, Checkpoint, has_id, without_checkpoint}
+use Rattle.ck_model.specs.World.{World, Checkpoint, without_checkpoint}
 use Rattle.ck_model.specs.Space.{pick, without_picks}
 use Rattle.ck_model.proofs.WorldLemmas.{Remain, Remain-itself, Remain-filter, AddsNone}
 

@@ -1,6 +1,5 @@
 -- What every step has in common: it answers no fault, and one new checkpoint comes exactly where the reply has its id.
-use Rattle.std.proofs.Common.{◌≡◌, ℕ, ◌+◌, ◌-◌, Bool, true, false, Option, None, Some, List, length, replicate, Result, Ok, Err, MatchOption, refl, sym, ap, subst, if◌then◌else◌}
-use Rattle.std.specs.Prelude.{⊤}
+use Rattle.std.proofs.Common.{◌≡◌, ℕ, ◌-◌, Bool, true, false, Option, List, length, replicate, Result, Ok, Err, MatchOption, refl, sym, ap, subst, if◌then◌else◌}
 use Rattle.ck_model.specs.declared.cell.Payload.TheVariants.{File, Dir}
 use Rattle.ck_model.specs.declared.call.Call.{Call}
 use Rattle.ck_model.specs.declared.call.Call.TheVariants.{Make, Mkdir, Rm, Rmdir, Mv, Write, Fill, Trunc, Read, List as Ls, Stat, Create, Remove, Nodata, Removable, Ckpts, Mount, Umount, Cread, Clist, Restore, Backup, Full, Info, Sync}

@@ -1,5 +1,5 @@
 -- What stands in the lists of streams, and what they make of one another.
-use Rattle.std.proofs.Common.{◌≡◌, Bool, true, false, cond, T, Option, Some, None, List, [], ◌∷◌, map as list_map, if◌then◌else◌, refl, sym, ap, subst, ◌∙◌}
+use Rattle.std.proofs.Common.{◌≡◌, true, false, cond, T, Option, Some, None, List, [], ◌∷◌, map as list_map, if◌then◌else◌, refl, sym, ap, subst, ◌∙◌}
 use Rattle.std.specs.Ordering.{eq_by_cmp}
 use Rattle.std.specs.Option.{option_map, unwrap_or}
 use Rattle.std.specs.FinMap.{find, is_sorted, entries_sorted}

@@ -1,6 +1,5 @@
 -- What the walks to paths can be refused with.
-use Rattle.std.proofs.Common.{◌≡◌, ℕ, ◌-◌, Bool, true, false, List, [], ◌∷◌, length, take, Result, Ok, Err, refl, if◌then◌else◌}
-use Rattle.std.specs.Prelude.{⊤}
+use Rattle.std.proofs.Common.{ℕ, ◌-◌, Bool, true, false, List, [], ◌∷◌, length, take, Result, Ok, Err, refl, if◌then◌else◌}
 use Rattle.std.specs.FinMap as map
 use Rattle.ck_model.specs.declared.path.WalkFault.{WalkFault}
 use Rattle.ck_model.specs.declared.path.WalkFault.TheVariants as fault
@@ -9,7 +8,7 @@ use Rattle.ck_model.specs.declared.reply.Reply.TheVariants.{IsDir, NotDir, Exist
 use Rattle.ck_model.specs.Refusals.{or_refused}
 use Rattle.ck_model.specs.Cells.{Cells, is_directory_at}
 use Rattle.ck_model.specs.Walk.{walk, node_at, file_at, directory_at, name_at, new_name_at}
-use Rattle.ck_model.proofs.RefusalsLemmas.{IsOrdinary, OrOrdinary, Refuses, and_then-ordinary, refuse_if-ordinary}
+use Rattle.ck_model.proofs.RefusalsLemmas.{IsOrdinary, Refuses, and_then-ordinary, refuse_if-ordinary}
 
 or_refused-ordinary : {A : Type 0} (r : Result A WalkFault) → Refuses (or_refused r)
 or_refused-ordinary (Ok x) = tt
