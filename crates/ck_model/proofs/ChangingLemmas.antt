@@ -15,7 +15,6 @@ pub record ChangesFiles (w : World) (next : World) : Type 0 where
   pub id : next.next.id ≡ w.next.id
   pub mounts : next.mounts ≡ w.mounts
 
--- with a property of nothing but files
 same : (w next : World) → next.limits ≡ w.limits → next.checkpoints ≡ w.checkpoints → next.next.id ≡ w.next.id → next.mounts ≡ w.mounts → ChangesFiles w next
 same w next limits checkpoints id mounts = record { limits = limits; checkpoints = checkpoints; id = id; mounts = mounts }
 

@@ -19,10 +19,11 @@ use Rattle.ck_model.proofs.ChangingLemmas.{ChangesFiles, made-changes, removed-c
 use Rattle.ck_model.proofs.FreezingLemmas.{frozen_world-adds, new_id-next, checkpoint_named-ordinary, with_changed-adds, as_nodata-later, dropped-adds, with_flag-adds, restored-adds, mounted-adds, dismounted-adds}
 use Rattle.ck_model.proofs.ReportingLemmas.{range_read-ordinary, names_listed-ordinary, status_of-ordinary, checkpoint_read-ordinary, checkpoint_names-ordinary, full_stream-ordinary, changed_stream-ordinary}
 
--- the new checkpoint with this id comes, if there is one
+-- a checkpoint with this id comes, if there is one, and else none
 abbrev pub Adds : World → Option ℕ → World → Type 0
 Adds w new next = MatchOption new (AddsNone w next) (λ id. (id ≡ w.next.id) × AddsOne w next)
 
+-- no fault is answered, and the checkpoint comes whose id the reply has, if it has one
 pub record IsSound (w : World) (outcome : Outcome) : Type 0 where
   pub no_fault : is_fault outcome.reply ≡ false
   pub adds : Adds w (created_id outcome.reply) outcome.next

@@ -1,8 +1,8 @@
 ghost use Rattle.ck_model.specs.Laws.{ChangesApply, FrozenMapsStay, WorldsStay};
 
-/// A checkpoint is frozen: after every legal history, whatever calls it has, each checkpoint that
-/// stands has the primary map of the moment at which it was created, or, if it stood at the
-/// beginning, its map of then. Where it is nodata, that map has marks in place of the blocks.
+/// What a checkpoint froze stays: after every legal history of a well-formed world, each checkpoint
+/// that stands has the primary map of the entry that created it, or, if it stood at the beginning,
+/// its own map of then. Where it is nodata, it has that map with marks in place of the blocks.
 pub fn frozen_maps_stay()
     ensures { FrozenMapsStay }
 {}
