@@ -1,0 +1,5 @@
+pub mod Bytes
+pub mod Clock
+pub mod Faults
+pub mod Sink
+pub mod Source
