@@ -1,6 +1,6 @@
 -- How bytes that are taken and bytes that are added go on.
-use Rattle.std.proofs.Common.{◌≡◌, ◌-◌, length, length-drop, arith, ℕ, Bool, IsTrue, List, [], ◌++◌, ◌+◌, take, drop, refl, sym, ◌∙◌, ap, subst, append_assoc}
-use Rattle.std.proofs.lemmas.List.{take-append-drop, append-nil, take_all}
+use Rattle.std.proofs.Common.{◌≡◌, ◌≤◌, ◌-◌, length, length-drop, arith, ℕ, Bool, IsTrue, List, [], ◌++◌, ◌+◌, take, drop, refl, sym, ◌∙◌, ap, subst, append_assoc}
+use Rattle.std.proofs.lemmas.List.{take-append-drop, append-nil, take_all, take_at, drop-drop, length-take-le}
 use Rattle.std.proofs.Math.Seq.{take-add}
 use Rattle.ck_io.specs.Bytes.{EndsWith, GainsPrefix}
 
@@ -62,3 +62,19 @@ appends_more old mid new bytes written count before now =
     ∙ ap (λ (l : List ℕ). l ++ take count (drop written bytes)) before
     ∙ append_assoc old (take written bytes) (take count (drop written bytes))
     ∙ ap (λ (l : List ℕ). old ++ l) (sym (take-add written count bytes))
+
+-- a piece of what is left, put at a buffer's beginning, and what is left behind it
+pub gives_front : (count given : ℕ) (left piece more slice bytes : List ℕ) → slice ≡ bytes → drop given bytes ≡ left
+    → count ≤ length (take (length slice - given) (drop given slice)) → piece ≡ take count (take (length slice - given) (drop given slice))
+    → left ≡ take count (piece ++ more) ++ drop (given + count) bytes
+gives_front count given left piece more slice bytes same is_left within is_piece =
+    sym is_left
+    ∙ sym (take-append-drop count (drop given bytes))
+    ∙ ap (λ (l : List ℕ). l ++ drop count (drop given bytes)) (sym front)
+    ∙ ap (λ (l : List ℕ). take count (piece ++ more) ++ l) (drop-drop count given bytes)
+  where
+    full : length piece ≡ count
+    full = ap length is_piece ∙ length-take-le count (take (length slice - given) (drop given slice)) within
+
+    front : take count (piece ++ more) ≡ take count (drop given bytes)
+    front = take_at piece more count full ∙ is_piece ∙ ap (λ (l : List ℕ). take count l) (slice_rest given slice) ∙ ap (λ (l : List ℕ). take count (drop given l)) same

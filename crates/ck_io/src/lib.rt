@@ -3,12 +3,16 @@
 
 mod clock;
 mod fault;
+mod memory;
 mod sink;
 mod source;
+mod standard;
 mod whole;
 
-pub use clock::Clock;
+pub use clock::{Clock, FixedClock, SystemClock};
 pub use fault::{Failed, InputFault};
+pub use memory::{MemSink, MemSource};
 pub use sink::Sink;
 pub use source::Source;
+pub use standard::{StdSink, StdSource};
 pub use whole::{read_all, write_all};
