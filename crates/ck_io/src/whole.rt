@@ -13,7 +13,11 @@ const PIECE: usize = 65536;
 
 /// Reads the source to its end, and gives up once more bytes came than the limit allows. It asks for no byte beyond
 /// the first that is too many.
-pub fn read_all<S: Source>(alloc: Global, source: &mut S, limit: usize) -> Result<Vec<u8>, InputFault>
+pub fn read_all<S: Source>(
+    alloc: Global,
+    source: &mut S,
+    limit: usize,
+) -> Result<Vec<u8>, InputFault>
     requires { limit + 1 < 2 ^ 64 }
     ensures all { IfOk result (λ bytes. IsTrue (S.means source.old).tells → bytes.items ≡ (S.means source.old).left) }
     ensures ended { OnOk result (IsTrue (S.means source.old).tells → (S.means source.new).left ≡ []) }
@@ -34,7 +38,12 @@ pub fn read_all<S: Source>(alloc: Global, source: &mut S, limit: usize) -> Resul
     read_pieces(source, &mut buffer, Vec::new(alloc), most)
 }
 
-fn read_pieces<S: Source>(source: &mut S, buffer: &mut [u8], mut bytes: Vec<u8>, most: usize) -> Result<Vec<u8>, InputFault>
+fn read_pieces<S: Source>(
+    source: &mut S,
+    buffer: &mut [u8],
+    mut bytes: Vec<u8>,
+    most: usize,
+) -> Result<Vec<u8>, InputFault>
     requires room { 0 < length buffer.old }
     requires empty { bytes.items ≡ [] }
     ensures all { IfOk result (λ bytes. IsTrue (S.means source.old).tells → bytes.items ≡ (S.means source.old).left) }
@@ -57,7 +66,11 @@ fn read_pieces<S: Source>(source: &mut S, buffer: &mut [u8], mut bytes: Vec<u8>,
 }
 
 // Appends what one read gives. False says that the source is at its end.
-fn take_piece<S: Source>(source: &mut S, buffer: &mut [u8], bytes: &mut Vec<u8>) -> Result<bool, InputFault>
+fn take_piece<S: Source>(
+    source: &mut S,
+    buffer: &mut [u8],
+    bytes: &mut Vec<u8>,
+) -> Result<bool, InputFault>
     requires { 0 < length buffer.old }
     ensures none_lost { OnOk result (IsTrue (S.means source.old).tells → bytes.new.items ++ (S.means source.new).left ≡ bytes.old.items ++ (S.means source.old).left) }
     ensures within { OnOk result (vec_len bytes.new ≤ vec_len bytes.old + length buffer.old) }
@@ -90,4 +103,64 @@ pub fn write_all<K: Sink>(sink: &mut K, bytes: &[u8]) -> Result<(), Failed>
         written += sink.write(&bytes[written..])?;
     }
     Ok(())
+}
+
+#[cfg(test)]
+mod tests {
+    use super::*;
+    use crate::memory::{MemSink, MemSource};
+    use std::test::Fail;
+
+    fn gives(answer: Result<Vec<u8>, InputFault>, text: &[u8]) -> bool {
+        match answer {
+            Ok(bytes) => bytes.as_slice() == text,
+            Err(_) => false,
+        }
+    }
+
+    fn carries(answer: Result<Vec<u8>, InputFault>, text: &[u8]) -> bool {
+        match answer {
+            Err(InputFault::TooLong(bytes)) => bytes.as_slice() == text,
+            _ => false,
+        }
+    }
+
+    fn is_fault(answer: Result<Vec<u8>, InputFault>) -> bool {
+        matches!(answer, Err(InputFault::ReadFault))
+    }
+
+    #[test]
+    fn reads_all_up_to_the_limit(rt: HostRuntime) -> Result<(), Fail> {
+        let alloc = rt.alloc();
+        let text = b"thirteen byte";
+        let mut source = MemSource::new(text.to_vec(alloc)?, 1, Vec::new(alloc));
+        assert!(rt; gives(read_all(alloc, &mut source, 13), text));
+        assert!(rt; gives(read_all(alloc, &mut source, 0), b""));
+        Ok(())
+    }
+
+    #[test]
+    fn reads_on_after_a_fault(rt: HostRuntime) -> Result<(), Fail> {
+        let alloc = rt.alloc();
+        let fails = [1, 3].to_vec(alloc)?;
+        let mut source = MemSource::new(b"thirteen byte".to_vec(alloc)?, 7, fails);
+        assert!(rt; is_fault(read_all(alloc, &mut source, 13)));
+        assert!(rt; is_fault(read_all(alloc, &mut source, 13)));
+        assert!(rt; carries(read_all(alloc, &mut source, 2), b"n b"));
+        assert!(rt; gives(read_all(alloc, &mut source, 3), b"yte"));
+        Ok(())
+    }
+
+    #[test]
+    fn writes_all_or_answers_a_fault(rt: HostRuntime) -> Result<(), Fail> {
+        let alloc = rt.alloc();
+        let mut sink = MemSink::new(alloc, [1, 3].to_vec(alloc)?);
+        assert_eq!(rt; write_all(&mut sink, b"lost"), Err(Failed));
+        assert_eq!(rt; write_all(&mut sink, b"kept"), Ok(()));
+        assert_eq!(rt; write_all(&mut sink, b""), Ok(()));
+        assert_eq!(rt; write_all(&mut sink, b"lost"), Err(Failed));
+        assert_eq!(rt; write_all(&mut sink, b" too"), Ok(()));
+        assert_eq!(rt; sink.into_bytes().as_slice(), b"kept too".as_slice());
+        Ok(())
+    }
 }

@@ -1,4 +1,3 @@
-use Rattle.std.proofs.Common.{sym}
 use Rattle.ck_io.proofs.BytesLemmas.{told_on, ends_on}
 use Rattle.ck_io.proofs.whole.read_pieces.Goals as goal
 
