@@ -1,6 +1,6 @@
 -- How a run of disk calls goes on.
-use Rattle.std.proofs.Common.{◌≢◌, IsTrue, ◌≤◌, ◌<◌, ◌+◌, inl, inr, ⊎_elim, ℕ, List, [], set, refl, sym, ◌∙◌, subst, arith, get_or-set_other, ext_get_or}
-use Rattle.std.proofs.lemmas.List.{length-set}
+use Rattle.std.proofs.Common.{◌≡◌, ◌≢◌, IsTrue, get_or, ◌≤◌, ◌<◌, ◌+◌, inl, inr, ⊎_elim, ℕ, List, [], set, refl, sym, ◌∙◌, subst, arith, get_or-set_other, ext_get_or}
+use Rattle.std.proofs.lemmas.List.{length-set, set-get_or}
 use Rattle.ck_disk.specs.Disk.{Image, Meaning, Lawful, Step, LeavesOnly, TearsAt, Only, Within, Agrees, IsSynced, Reaches, Outside}
 
 -- where no write stands on a disk, a crash leaves what reads give
@@ -8,6 +8,13 @@ pub synced_only : (m : Meaning) → Lawful m → IsTrue m.tells → IsSynced m �
 synced_only m law told synced c left =
     let same = law.clean told c left in
     ext_get_or [] c m.shows same.size (λ k lt. same.at k (synced k))
+
+-- where a write changes nothing
+pub torn_same : (at : ℕ) (all : Image → Type 0) → TearsAt at all all
+torn_same at all c left = (c, get_or c at [], left, sym (set-get_or c at []))
+
+pub set_same : (at : ℕ) (s : Image) → (b : List ℕ) × (s ≡ set s at b)
+set_same at s = (get_or s at [], sym (set-get_or s at []))
 
 -- before the first call
 pub started : (m : Meaning) (P : Image → Type 0) → Lawful m → ((c : Image) → m.may_leave c → P c) → LeavesOnly m m P

@@ -1,1 +1,5 @@
 pub mod Disk
+pub mod FuseDisk
+pub mod MemRecord
+pub mod MemLaws
+pub mod MemDisk

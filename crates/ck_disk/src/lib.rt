@@ -2,5 +2,11 @@
 #![tactic(auto)]
 
 mod disk;
+mod fuse_disk;
+mod mem_disk;
+mod memory;
 
 pub use disk::{Block, Disk, Failed};
+pub use fuse_disk::FuseDisk;
+pub use mem_disk::{MemDisk, Torn};
+pub use memory::NoMemory;
