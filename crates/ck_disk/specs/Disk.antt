@@ -44,6 +44,8 @@ pub record Lawful (m : Meaning) : Type 0 where
   pub counts_now : (t : ℕ) (c : Image) → t ≤ m.moment → m.may_leave c → m.left_since t c
   -- since this moment there is no other
   pub only_now : (c : Image) → m.left_since m.moment c → m.may_leave c
+  -- what reads give is an image that a crash may leave
+  pub shown : IsTrue m.tells → m.may_leave m.shows
   -- an image that a crash may leave agrees with what reads give on every block that wasn't written since the last sync
   pub clean : IsTrue m.tells → (c : Image) → m.may_leave c → Agrees (IsClean m) m.shows c
   -- and every block that was written since then may hold anything

@@ -33,6 +33,7 @@ pub lawful_meaning : {D : Type 0} (means : D → Meaning) → ((disk : D) → La
 lawful_meaning means lawful f = let law = lawful f.inner in record {
   counts_now = law.counts_now;
   only_now = law.only_now;
+  shown = law.shown;
   clean = law.clean;
   torn = law.torn;
   whole = law.whole;

@@ -3,3 +3,4 @@ pub mod FuseDisk
 pub mod MemRecord
 pub mod MemLaws
 pub mod MemDisk
+pub mod Silent

@@ -17,6 +17,7 @@ pub mem_lawful : (steps : List MemStep) (blocks : Image) (reads writes : ℕ) �
 mem_lawful steps blocks reads writes fits = record {
   counts_now = λ t c le left. (length steps, record { since = le; till = omega arith; image = end_is_left steps blocks (length steps) c (omega arith) left });
   only_now = λ c from. left_at_end steps blocks from.0 c from.1.since from.1.image;
+  shown = λ told. record { size = refl; same = λ k clean. refl };
   clean = λ told c left. record { size = left.size; at = left.same };
   torn = λ told c same. record { size = same.size; same = same.at };
   whole = λ told. refl;

@@ -5,6 +5,8 @@ mod disk;
 mod fuse_disk;
 mod mem_disk;
 mod memory;
+#[cfg(test)]
+mod tests;
 
 pub use disk::{Block, Disk, Failed};
 pub use fuse_disk::FuseDisk;
