@@ -11,3 +11,4 @@ pub mod ReportingLemmas
 pub mod StepLemmas
 pub mod HistoryLemmas
 pub mod LawsLemmas
+pub mod PathLemmas
