@@ -1,7 +1,13 @@
-//! The texts of the programs: calls, replies and transcripts.
+//! The texts of the programs: calls, replies, transcripts, and the lines on standard error.
 #![tactic(auto)]
 
 mod put;
+mod standard_error;
+mod status;
+mod story;
 mod words;
 
+pub use standard_error::fault_line;
+pub use status::Status;
+pub use story::transcript;
 pub use words::{put_call, put_reply};

@@ -223,7 +223,14 @@ fn put_share(out: &mut Vec<u8>, text: &[u8], used: u64, limit: u64) -> Result<()
     put_number(out, limit)
 }
 
-fn put_counts(out: &mut Vec<u8>, held: u64, blocks: u64, records: u64, limit: u64, checkpoints: u32) -> Result<(), NoMemory>
+fn put_counts(
+    out: &mut Vec<u8>,
+    held: u64,
+    blocks: u64,
+    records: u64,
+    limit: u64,
+    checkpoints: u32,
+) -> Result<(), NoMemory>
     ensures { OnOk result (out.new.items ≡ out.old.items ++ counts_words held blocks records limit checkpoints) }
 {
     put_share(out, b"Ok held", held, blocks)?;
@@ -239,7 +246,13 @@ fn put_checkpoints(out: &mut Vec<u8>, checkpoints: u32) -> Result<(), NoMemory>
     put_number(out, u64::from(checkpoints))
 }
 
-fn put_space(out: &mut Vec<u8>, what: SpaceOf, held: u64, need: u64, limit: u64) -> Result<(), NoMemory>
+fn put_space(
+    out: &mut Vec<u8>,
+    what: SpaceOf,
+    held: u64,
+    need: u64,
+    limit: u64,
+) -> Result<(), NoMemory>
     ensures { OnOk result (out.new.items ≡ out.old.items ++ reply_words (reply.NoSpace what held need limit)) }
 {
     put(out, b"NoSpace")?;
@@ -303,7 +316,14 @@ pub fn put_reply(out: &mut Vec<u8>, reply: &Reply) -> Result<(), NoMemory>
             put(out, b"Ok")?;
             put_lines(out, lines.items())
         }
-        Reply::Info(held, blocks, records, limit, checkpoints) => put_counts(out, *held, *blocks, *records, *limit, *checkpoints),
+        Reply::Info(held, blocks, records, limit, checkpoints) => put_counts(
+            out,
+            *held,
+            *blocks,
+            *records,
+            *limit,
+            *checkpoints,
+        ),
         Reply::Streamed(records, stream) => put_stream(out, *records, stream.items()),
         Reply::NotFound => put(out, b"NotFound"),
         Reply::NotDir => put(out, b"NotDir"),
