@@ -1,3 +1,4 @@
 pub mod Numbered
 pub mod Grammar
 pub mod Reading
+pub mod Steps

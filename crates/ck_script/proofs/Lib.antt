@@ -1,0 +1,4 @@
+pub mod NameLemmas
+pub mod LinesLemmas
+pub mod ReadingLemmas
+pub mod OrderLemmas
