@@ -1,0 +1,132 @@
+-- The calls of a script that is accepted are built.
+use Rattle.std.proofs.Common.{◌≡◌, ℕ, ◌+◌, ◌≤◌, Bool, true, false, cond, List, [], ◌∷◌, ◌++◌, length, Option, Some, None, Result, Ok, Err, codes, nat_eq, nat_le, refl, subst, sym, arith}
+use Rattle.std.specs.List.{AllByRecursion}
+use Rattle.std.specs.Option.{option_map_or, option_map, option_and_then}
+use Rattle.std.proofs.lemmas.Option.{option_and_then_some}
+use Rattle.std.proofs.lemmas.Bool.Decides.{nat_tests}
+use Rattle.ck_model.specs.declared.call.Call.{Call}
+use Rattle.ck_model.specs.declared.call.Call.TheVariants.{Make, Write, Create, Mount, Cread}
+use Rattle.ck_text.specs.Decimal.{number_of}
+use Rattle.ck_text.specs.Words.{words_of}
+use Rattle.ck_script.specs.Grammar.{call_of, make_of, write_of, write_within, create_of, mount_of, cread_of, path_of, number_up_to, bytes_of, checkpoint_name, letter_of, place_limit, is_text}
+use Rattle.ck_script.specs.Reading.{read_lines, read_script, call_in, call_by_words, one_more, are_few, is_skipped, long_line}
+use Rattle.ck_admin.specs.Built.{IsBuilt}
+
+-- every call that this may give is built
+abbrev Builds : Option Call → Type 0
+Builds o = (call : Call) → o ≡ Some call → IsBuilt call
+
+either : (b : Bool) (x y : Option Call) → Builds x → Builds y → Builds (cond b x y)
+either true x y first second = first
+either false x y first second = second
+
+nothing : Builds None
+nothing call h = cc
+
+one : (built : Call) → IsBuilt built → Builds (Some built)
+one built is call h = let same : built ≡ call = cc in subst IsBuilt same is
+
+mapped : {A : Type 0} (make : A → Call) → ((x : A) → IsBuilt (make x)) → (o : Option A) → Builds (option_map make o)
+mapped make is None = nothing
+mapped make is (Some x) = one (make x) (is x)
+
+chained : {A : Type 0} (f : A → Option Call) (o : Option A) → ((x : A) → o ≡ Some x → Builds (f x)) → Builds (option_and_then f o)
+chained f o is call h = option_and_then_some f o call h (λ x found rest. is x found call rest)
+
+up_to : (limit number : ℕ) (word : List ℕ) → number_up_to limit word ≡ Some number → number ≤ limit
+up_to limit number word h =
+    option_and_then_some (λ n. cond (nat_le n limit) (Some n) None) (number_of word) number h (λ n _. step n)
+  where
+    step : (n : ℕ) → cond (nat_le n limit) (Some n) None ≡ Some number → number ≤ limit
+    step n = elim (nat_le n limit) as (λ b. nat_le n limit ≡ b → cond b (Some n) None ≡ Some number → number ≤ limit) [
+      | true ↦ λ e h. let same : n ≡ number = cc in grind (arith, nat_tests, e, same)
+      | false ↦ λ e h. cc
+    ] refl
+
+make_builds : (words : List (List ℕ)) → Builds (make_of words)
+make_builds [] = nothing
+make_builds (path ∷ []) = mapped Make (λ path. tt) (path_of path)
+make_builds (path ∷ word ∷ words) = nothing
+
+write_builds : (words : List (List ℕ)) → Builds (write_of words)
+write_builds [] = nothing
+write_builds (path ∷ []) = nothing
+write_builds (path ∷ at ∷ []) = nothing
+write_builds (path ∷ at ∷ bytes ∷ []) =
+    chained _ (path_of path) (λ path _.
+    chained _ (number_up_to place_limit at) (λ number found.
+    chained (write_within path number) (bytes_of bytes) (λ bytes _.
+    either (nat_le (number + length bytes) place_limit) (Some (Write path number bytes)) None (one (Write path number bytes) (up_to place_limit number at found)) nothing)))
+write_builds (path ∷ at ∷ bytes ∷ word ∷ words) = nothing
+
+create_builds : (words : List (List ℕ)) → Builds (create_of words)
+create_builds [] = nothing
+create_builds (name ∷ []) = mapped (λ name. Create name false false) (λ name. tt) (checkpoint_name name)
+create_builds (name ∷ word ∷ words) = nothing
+
+mount_builds : (words : List (List ℕ)) → Builds (mount_of words)
+mount_builds [] = nothing
+mount_builds (letter ∷ []) = nothing
+mount_builds (letter ∷ name ∷ []) = chained _ (letter_of letter) (λ letter _. mapped (Mount letter) (λ name. tt) (checkpoint_name name))
+mount_builds (letter ∷ name ∷ word ∷ words) = nothing
+
+cread_builds : (words : List (List ℕ)) → Builds (cread_of words)
+cread_builds [] = nothing
+cread_builds (letter ∷ []) = nothing
+cread_builds (letter ∷ path ∷ []) = nothing
+cread_builds (letter ∷ path ∷ at ∷ []) = nothing
+cread_builds (letter ∷ path ∷ at ∷ len ∷ []) =
+    chained _ (letter_of letter) (λ letter _.
+    chained _ (path_of path) (λ path _.
+    chained _ (number_up_to place_limit at) (λ number found.
+    mapped (Cread letter path number) (λ len. up_to place_limit number at found) (number_up_to place_limit len))))
+cread_builds (letter ∷ path ∷ at ∷ len ∷ word ∷ words) = nothing
+
+call_builds : (words : List (List ℕ)) → Builds (call_of words)
+call_builds [] = nothing
+call_builds (verb ∷ words) =
+    either (is_text verb (codes "make")) _ _ (make_builds words)
+    (either (is_text verb (codes "write")) _ _ (write_builds words)
+    (either (is_text verb (codes "create")) _ _ (create_builds words)
+    (either (is_text verb (codes "mount")) _ _ (mount_builds words)
+    (either (is_text verb (codes "cread")) _ _ (cread_builds words) nothing))))
+
+words_build : (words : List (List ℕ)) → Builds (call_by_words words)
+words_build [] = nothing
+words_build (actor ∷ words) = either (is_text actor (codes "1")) _ _ (call_builds words) nothing
+
+abbrev pub AllBuilt : List Call → Type 0
+AllBuilt calls = AllByRecursion IsBuilt calls
+
+all_more : (calls : List Call) (call : Call) → AllBuilt calls → IsBuilt call → AllBuilt (calls ++ call ∷ [])
+all_more [] call all is = (is, tt)
+all_more (first ∷ calls) call all is = (all.0, all_more calls call all.1 is)
+
+more_built : (calls more : List Call) (o : Option Call) → AllBuilt calls → Builds o → one_more calls o ≡ Some more → AllBuilt more
+more_built calls more None all builds h = cc
+more_built calls more (Some call) all builds h =
+    elim (are_few (calls ++ call ∷ [])) as (λ b. cond b (Some (calls ++ call ∷ [])) None ≡ Some more → AllBuilt more) [
+      | true ↦ λ h. let same : calls ++ call ∷ [] ≡ more = cc in subst AllBuilt same (all_more calls call all (builds call refl))
+      | false ↦ λ h. cc
+    ] h
+
+read_built : (long : Option ℕ) (number : ℕ) (calls result : List Call) (lines : List (List ℕ)) → AllBuilt calls → read_lines long number calls lines ≡ Ok result → AllBuilt result
+read_built None number calls result [] all h = let same : calls ≡ result = cc in subst AllBuilt same all
+read_built (Some line) number calls result [] all h = cc
+read_built long number calls result (line ∷ lines) all h =
+    elim (option_map_or (nat_eq number) long false) as (λ b. cond b (Err number) (cond (is_skipped line) (read_lines long (number + 1) calls lines) (option_map_or (λ more. read_lines long (number + 1) more lines) (one_more calls (call_in line)) (Err number))) ≡ Ok result → AllBuilt result) [
+      | true ↦ λ h. cc
+      | false ↦ elim (is_skipped line) as (λ b. cond b (read_lines long (number + 1) calls lines) (option_map_or (λ more. read_lines long (number + 1) more lines) (one_more calls (call_in line)) (Err number)) ≡ Ok result → AllBuilt result) [
+        | true ↦ read_built long (number + 1) calls result lines all
+        | false ↦ one_line (call_in line) (words_build (words_of line)) (one_more calls (call_in line)) refl (λ more built. read_built long (number + 1) more result lines built)
+      ]
+    ] h
+  where
+    one_line : (o : Option Call) → Builds o → (after : Option (List Call)) → one_more calls o ≡ after → ((more : List Call) → AllBuilt more → read_lines long (number + 1) more lines ≡ Ok result → AllBuilt result) →
+        option_map_or (λ more. read_lines long (number + 1) more lines) after (Err number) ≡ Ok result → AllBuilt result
+    one_line o builds None is again h = cc
+    one_line o builds (Some more) is again h = again more (more_built calls more o all builds is) h
+
+-- what a script is read as is built
+pub script_built : (bytes : List ℕ) (calls : List Call) → read_script bytes ≡ Ok calls → AllBuilt calls
+script_built bytes calls h = read_built (long_line bytes) 1 [] calls _ tt h

@@ -1,0 +1,5 @@
+pub mod Built
+pub mod Answering
+pub mod Play
+pub mod Statuses
+pub mod Top

@@ -1,0 +1,10 @@
+//! The top call of the programs: words, a script, its play, and what is printed of it.
+#![tactic(auto)]
+
+mod command;
+mod playing;
+mod print;
+mod read;
+
+pub use command::Ended;
+pub use playing::play;
