@@ -1,5 +1,5 @@
 -- Texts of paths: where the names in them end, and that no two paths have one text.
-use Rattle.std.proofs.Common.{◌≡◌, ◌≢◌, ◌<◌, ◌≤◌, ◌++◌, ◌∷◌, [], ℕ, List, length, All, get_or, take, drop, refl, ap, sym, ◌∙◌, inl, inr, add-zero, arith, None, Some}
+use Rattle.std.proofs.Common.{◌≡◌, ◌≢◌, ◌<◌, ◌≤◌, ◌++◌, ◌∷◌, [], ℕ, List, length, All, get_or, take, drop, refl, ap, sym, ◌∙◌, inl, inr, add-zero, arith, Option, None, Some}
 use Rattle.std.proofs.lemmas.Bool.{cases_lt}
 use Rattle.std.proofs.lemmas.List.{get_or-drop, get_or_default, get_or_past, take-append-drop, append-nil, append_assoc, append_cancel_left}
 use Rattle.std.proofs.lemmas.List.Elements.{All-head, All-tail, All-weaker, All-push}
@@ -27,7 +27,8 @@ HasNoSlash-tail : (x : ℕ) (xs : List ℕ) → HasNoSlash (x ∷ xs) → HasNoS
 HasNoSlash-tail x xs h = record { each = All-tail (λ byte. byte ≢ 47) x xs h.each }
 
 -- where two texts are one, so are their parts before the first slash, and the rests
-pub same_front : (a b x y : List ℕ) → HasNoSlash a → HasNoSlash b → IsAtSlash x → IsAtSlash y → a ++ x ≡ b ++ y → (a ≡ b) × (x ≡ y)
+pub same_front : (a b x y : List ℕ) → HasNoSlash a → HasNoSlash b → IsAtSlash x → IsAtSlash y
+    → a ++ x ≡ b ++ y → (a ≡ b) × (x ≡ y)
 same_front [] [] x y p q s t e = (refl, e)
 same_front [] (b ∷ bs) x y p q s t e = absurd (All-head (λ byte. byte ≢ 47) b bs q.each (sym (ap (λ u. get_or u 0 47) e) ∙ s.first))
 same_front (a ∷ as') [] x y p q s t e = absurd (All-head (λ byte. byte ≢ 47) a as' p.each (ap (λ u. get_or u 0 47) e ∙ t.first))
@@ -38,7 +39,9 @@ same_front (a ∷ as') (b ∷ bs) x y p q s t e =
     (cc, rest.1)
 
 -- before its first slash, or its end, a text has the name that it begins with
-pub take_name : (text name : List ℕ) (names : List (List ℕ)) (end : ℕ) → end ≤ length text → All (λ byte. byte ≢ 47) (take end text) → (end < length text → get_or text end 0 ≡ 47) → IsFileName name → name ++ joined names ≡ text → take end text ≡ name
+pub take_name : (text name : List ℕ) (names : List (List ℕ)) (end : ℕ) → end ≤ length text
+    → All (λ byte. byte ≢ 47) (take end text) → (end < length text → get_or text end 0 ≡ 47)
+    → IsFileName name → name ++ joined names ≡ text → take end text ≡ name
 take_name text name names end within before slash file e =
     let first : get_or text end 47 ≡ 47 = elim (cases_lt end (length text)) [
       | inl lt ↦ get_or_default text end 47 0 lt ∙ slash lt
@@ -79,8 +82,13 @@ begins_name bytes (name ∷ names) some each e = record {
   text = e;
 }
 
+-- what was found is the name that the text begins with, if names follow that one
+abbrev pub FindsFirst : List ℕ → Option (List ℕ) → Type 0
+FindsFirst bytes found =
+    (name : List ℕ) (names : List (List ℕ)) → IsFileName name → 47 ∷ (name ++ joined names) ≡ bytes → found ≡ Some name
+
 -- a text that isn't empty and begins with no name is no text of names
-pub no_names : (bytes : List ℕ) → 0 < length bytes → ((name : List ℕ) (names : List (List ℕ)) → IsFileName name → 47 ∷ (name ++ joined names) ≡ bytes → None ≡ Some name) → IsNamesText bytes → ⊥
+pub no_names : (bytes : List ℕ) → 0 < length bytes → FindsFirst bytes None → IsNamesText bytes → ⊥
 no_names bytes some none h =
     let first = begins_name bytes h.names some h.each h.text in
     let given : None ≡ Some first.name = none first.name first.names first.file first.text in
@@ -92,14 +100,17 @@ joined-push [] name = append-nil (47 ∷ name)
 joined-push (n ∷ ns) name = ap (λ u. 47 ∷ (n ++ u)) (joined-push ns name) ∙ ap (λ u. 47 ∷ u) (sym (append_assoc n (joined ns) (47 ∷ name)))
 
 -- behind the name that a text of names begins with stands a text of names
-behind_name : (rest name behind : List ℕ) → BeginsName rest → rest ≡ 47 ∷ (name ++ behind) → ((other : List ℕ) (others : List (List ℕ)) → IsFileName other → 47 ∷ (other ++ joined others) ≡ rest → Some name ≡ Some other) → IsNamesText behind
+behind_name : (rest name behind : List ℕ) → BeginsName rest → rest ≡ 47 ∷ (name ++ behind)
+    → FindsFirst rest (Some name) → IsNamesText behind
 behind_name rest name behind first e only =
     let same : Some name ≡ Some first.name = only first.name first.names first.file first.text in
     let tails : name ++ joined first.names ≡ name ++ behind = cc in
     record { names = first.names; each = first.each; text = append_cancel_left name (joined first.names) behind tails }
 
 -- one more name is read
-pub HasRead-push : (bytes : List ℕ) (names : List (List ℕ)) (rest name behind : List ℕ) → HasRead bytes names rest → IsFileName name → rest ≡ 47 ∷ (name ++ behind) → ((other : List ℕ) (others : List (List ℕ)) → IsFileName other → 47 ∷ (other ++ joined others) ≡ rest → Some name ≡ Some other) → HasRead bytes (names ++ name ∷ []) behind
+pub HasRead-push : (bytes : List ℕ) (names : List (List ℕ)) (rest name behind : List ℕ)
+    → HasRead bytes names rest → IsFileName name → rest ≡ 47 ∷ (name ++ behind) → FindsFirst rest (Some name)
+    → HasRead bytes (names ++ name ∷ []) behind
 HasRead-push bytes names rest name behind h file e only =
     let some : 0 < length rest = omega (arith, ap length e) in
     record {

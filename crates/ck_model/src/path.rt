@@ -49,7 +49,8 @@ impl Path {
     pub fn read(alloc: Global, bytes: &[u8]) -> Result<Option<Path>, NoMemory>
         ensures value { IfOk result (λ found. IfSome found (λ path. path_text path ≡ bytes.now)) }
         ensures path { IfOk result (λ found. IfSome found IsPath) }
-        ensures none { IfOk result (λ found. IfNone found ((names : List (List ℕ)) → IsPath names → path_text names ≢ bytes.now)) }
+        ensures none { IfOk result (λ found. IfNone found
+            ((names : List (List ℕ)) → IsPath names → path_text names ≢ bytes.now)) }
     {
         if bytes.is_empty() || bytes.len() > LONGEST_PATH {
             return Ok(None);
@@ -84,7 +85,8 @@ impl Path {
 fn read_names(alloc: Global, bytes: &[u8]) -> Result<Option<Vec<NameBytes>>, NoMemory>
     ensures text { IfOk result (λ found. IfSome found (λ names. joined names.items ≡ bytes.now)) }
     ensures each { IfOk result (λ found. IfSome found (λ names. All IsFileName names.items)) }
-    ensures none { IfOk result (λ found. IfNone found ((names : List (List ℕ)) → All IsFileName names → joined names ≢ bytes.now)) }
+    ensures none { IfOk result (λ found. IfNone found
+        ((names : List (List ℕ)) → All IsFileName names → joined names ≢ bytes.now)) }
 {
     let mut names = Vec::new(alloc);
     let mut rest = bytes;
@@ -102,7 +104,8 @@ fn read_names(alloc: Global, bytes: &[u8]) -> Result<Option<Vec<NameBytes>>, NoM
 fn first_name(bytes: &[u8]) -> Option<NameBytes>
     ensures name { IfSome result IsFileName }
     ensures text { IfSome result (λ name. bytes.now ≡ SLASH ∷ (name ++ drop (1 + length name) bytes.now)) }
-    ensures only { (name : List ℕ) (names : List (List ℕ)) → IsFileName name → SLASH ∷ (name ++ joined names) ≡ bytes.now → result ≡ Some name }
+    ensures only { (name : List ℕ) (names : List (List ℕ)) → IsFileName name
+        → SLASH ∷ (name ++ joined names) ≡ bytes.now → result ≡ Some name }
 {
     let (slash, text) = bytes.split_first()?;
     if *slash != SLASH {
@@ -119,7 +122,8 @@ fn first_name(bytes: &[u8]) -> Option<NameBytes>
 /// The text up to its first slash.
 fn before_slash(text: &[u8]) -> &[u8]
     ensures text { text.now ≡ result.now ++ drop (length result.now) text.now }
-    ensures only { (name : List ℕ) (names : List (List ℕ)) → IsFileName name → name ++ joined names ≡ text.now → result.now ≡ name }
+    ensures only { (name : List ℕ) (names : List (List ℕ)) → IsFileName name
+        → name ++ joined names ≡ text.now → result.now ≡ name }
 {
     &text[..name_end(text)]
 }
