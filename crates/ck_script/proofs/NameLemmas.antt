@@ -1,11 +1,11 @@
 -- The tests of a word against what a name is.
-use Rattle.std.proofs.Common.{◌≡◌, ℕ, ◌≤◌, ◌&&◌, Bool, true, false, cond, not, List, [], ◌∷◌, length, Option, Some, None, IsSome, IfSome, ◌↔◌, nat_eq, nat_le, if◌then◌else◌, codes, refl, sym, ap, subst, arith}
+use Rattle.std.proofs.Common.{◌≡◌, ℕ, ◌≤◌, ◌&&◌, Bool, true, false, cond, not, List, length, Option, Some, None, IsSome, IfSome, ◌↔◌, nat_eq, nat_le, if◌then◌else◌, codes, refl, sym, ap, subst, arith}
 use Rattle.std.specs.Bool.{Decides}
 use Rattle.std.specs.List.{list_all}
 use Rattle.std.proofs.lemmas.Bool.Decides.{nat_tests, Decides-and, Decides-not, Decides-like, Decides-eqb, Decides-by_and}
 use Rattle.std.proofs.lemmas.Slice.Eq.{bytes_eq-Decides}
 use Rattle.ck_model.specs.Name.{IsName, IsNameByte, IsFileName}
-use Rattle.ck_script.specs.Grammar.{is_name, is_file_name, is_printable, is_text}
+use Rattle.ck_script.specs.Grammar.{is_name, is_file_name, is_printable}
 
 Decides-nat_le : (a b : ℕ) → Decides (nat_le a b) (a ≤ b)
 Decides-nat_le a b = (λ e. grind (arith, nat_tests, e), λ h. grind (arith, nat_tests, h))

@@ -1,6 +1,6 @@
 -- The numbers of the calls of a script.
-use Rattle.std.proofs.Common.{◌≡◌, ℕ, zero, suc, ◌+◌, Bool, true, false, cond, List, [], ◌∷◌, ◌++◌, ◌<◌, length, get_or, take, count_by, map as list_map, nat_eq, Option, Some, None, length-append, zero-add, refl, sym, ap, subst, ◌∙◌, arith}
-use Rattle.std.specs.List.{AllByRecursion, range_with_len, filter_map, cons_option}
+use Rattle.std.proofs.Common.{◌≡◌, ℕ, zero, suc, ◌+◌, true, false, cond, List, [], ◌∷◌, ◌++◌, ◌<◌, length, get_or, take, count_by, map as list_map, nat_eq, Some, None, length-append, zero-add, refl, sym, ap, ◌∙◌, arith}
+use Rattle.std.specs.List.{AllByRecursion, range_with_len, cons_option}
 use Rattle.std.proofs.lemmas.List.{map-append, length-map}
 use Rattle.std.proofs.lemmas.List.{take_more}
 use Rattle.std.proofs.lemmas.List.Sums.{sum_by-append}
@@ -22,12 +22,12 @@ pub order_more : (lines : List Line) (line : Line) → AreInOrder lines → line
 order_more lines line order one next = record {
   actor = one_more_actor lines line order.actor one;
   seq =
-    let len : length (lines ++ line ∷ []) ≡ suc (length lines) = simp length-append (omega arith) in
-    let last : line.seq ≡ 1 + length lines = omega (arith, next) in
-    map-append (λ (line : Line). line.seq) lines (line ∷ [])
-    ∙ (λ i. order.seq i ++ last i ∷ [])
-    ∙ sym (range_with_len-suc 1 (length lines))
-    ∙ ap (range_with_len 1) (sym len);
+      let len : length (lines ++ line ∷ []) ≡ suc (length lines) = simp length-append (omega arith) in
+      let last : line.seq ≡ 1 + length lines = omega (arith, next) in
+      map-append (λ (line : Line). line.seq) lines (line ∷ [])
+      ∙ (λ i. order.seq i ++ last i ∷ [])
+      ∙ sym (range_with_len-suc 1 (length lines))
+      ∙ ap (range_with_len 1) (sym len);
 }
 
 numbers_of_one : (lines : List Line) (actor : ℕ) → AllByRecursion (λ line. line.actor ≡ 1) lines → nat_eq 1 actor ≡ true → numbers_in lines actor ≡ list_map (λ line. line.seq) lines

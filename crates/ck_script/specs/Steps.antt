@@ -1,5 +1,5 @@
 -- How a script is read line by line.
-use Rattle.std.specs.Prelude.{◌≡◌, ℕ, Bool, List, Option, Some, None, Result, Err, length, map as list_map, nat_lt, if◌then◌else◌, slice_range, drop}
+use Rattle.std.specs.Prelude.{◌≡◌, ℕ, List, Option, Some, None, Result, Err, length, map as list_map, nat_lt, if◌then◌else◌, slice_range, drop}
 use Rattle.std.specs.List.{AllByRecursion, range_with_len}
 use Rattle.std.specs.Str.Lines.{strip_carriage_return}
 use Rattle.ck_model.specs.declared.call.Call.{Call}

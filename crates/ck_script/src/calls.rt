@@ -53,7 +53,13 @@ fn mount(letter: &[u8], name: &[u8]) -> Option<Call>
     Some(Call::Mount(letter, name))
 }
 
-fn cread(alloc: Global, letter: &[u8], path: &[u8], at: &[u8], len: &[u8]) -> Result<Option<Call>, NoMemory>
+fn cread(
+    alloc: Global,
+    letter: &[u8],
+    path: &[u8],
+    at: &[u8],
+    len: &[u8],
+) -> Result<Option<Call>, NoMemory>
     ensures { IfOk result (λ call. call ≡ cread_of (letter.now ∷ path.now ∷ at.now ∷ len.now ∷ [])) }
 {
     let Some(letter) = letter_of(letter) else {

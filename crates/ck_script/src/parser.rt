@@ -77,7 +77,12 @@ fn add_call(lines: &mut Vec<Line>, number: u32, call: Call) -> Result<(), ParseF
     push_call(lines, number, call)
 }
 
-fn read_line(alloc: Global, lines: &mut Vec<Line>, number: u32, line: &[u8]) -> Result<(), ParseFault>
+fn read_line(
+    alloc: Global,
+    lines: &mut Vec<Line>,
+    number: u32,
+    line: &[u8],
+) -> Result<(), ParseFault>
     requires { AreInOrder lines.old.items }
     ensures ok { OnOk result (calls_after (calls_of lines.old.items) line.now ≡ Some (calls_of lines.new.items)) }
     ensures order { OnOk result (AreInOrder lines.new.items) }
@@ -205,4 +210,90 @@ pub fn parse(alloc: Global, bytes: &[u8]) -> Result<Script, ParseFault>
     Ok(Script {
         calls: Lines::of(lines),
     })
+}
+
+#[cfg(test)]
+mod tests {
+    use super::*;
+    use std::test::Fail;
+
+    #[test]
+    fn reads_calls(rt: HostRuntime) -> Result<(), Fail> {
+        let text =
+            "1 make /a\n# 1 make /b\n \t\n1\twrite /a  4095 t:x\r\n1 create c\n1 mount z c\n1 cread z /a 0 4096";
+        let calls = parse(rt.alloc(), text.as_bytes())
+            .ok()
+            .map(|script| script.calls.into_vec());
+        assert!(rt; calls.is_some());
+        if let Some(calls) = calls {
+            assert_eq!(rt; calls.len(), 5);
+            for ((seq, line), call) in [(1, 1), (2, 4), (3, 5), (4, 6), (5, 7)]
+                .iter()
+                .zip(calls.iter())
+            {
+                assert_eq!(rt; (call.actor, call.seq, call.line), (1, *seq, *line));
+            }
+            if let [make, write, create, mount, cread] = calls.as_slice() {
+                assert!(rt; matches!(&make.call, Call::Make(path) if path.items().len() == 1));
+                assert!(rt;
+                    matches!(&write.call, Call::Write(_, 4095, bytes) if bytes.items() == b"x".as_slice())
+                );
+                assert!(rt;
+                    matches!(&create.call, Call::Create(name, false, false) if name.bytes() == b"c".as_slice())
+                );
+                assert!(rt; matches!(&mount.call, Call::Mount(b'z', _)));
+                assert!(rt; matches!(&cread.call, Call::Cread(b'z', _, 0, 4096)));
+            }
+        }
+        Ok(())
+    }
+
+    #[test]
+    fn accepts_and_refuses(rt: HostRuntime) -> Result<(), Fail> {
+        let most = "1 make /a\n".as_bytes().repeat(rt.alloc(), 32)?;
+        assert_eq!(rt;
+            parse(rt.alloc(), &most)
+                .ok()
+                .map(|script| script.calls.items().len()),
+            Some(32)
+        );
+        let many = "1 make /a\n".as_bytes().repeat(rt.alloc(), 33)?;
+        assert_eq!(rt;
+            parse(rt.alloc(), &many).err(),
+            Some(ParseFault::BadLine(33))
+        );
+
+        for (text, refused) in [
+            ("", None),
+            ("\r\n#\r\n", None),
+            ("1 write /a 0 t:", None),
+            ("1 write /a 4096 t:", None),
+            ("1 make /a234567890123456789012345678901234567890", None),
+            ("1 make /a2345678901234567890123456789012345678901", Some(1)),
+            ("1 make /a\r", Some(1)),
+            ("1 make /a\r\r\n", Some(1)),
+            (" # not at the front", Some(1)),
+            ("#\n\n2 make /a", Some(3)),
+            ("01 make /a", Some(1)),
+            ("1", Some(1)),
+            ("1 make", Some(1)),
+            ("1 make /a /b", Some(1)),
+            ("1 make /", Some(1)),
+            ("1 make /..", Some(1)),
+            ("1 make /a/b", Some(1)),
+            ("1 write /a 01 t:x", Some(1)),
+            ("1 write /a 4097 t:", Some(1)),
+            ("1 write /a 4096 t:x", Some(1)),
+            ("1 write /a 0 x", Some(1)),
+            ("1 create -c", Some(1)),
+            ("1 create a\n1 create b\n1 x", Some(2)),
+            ("1 mount A a", Some(1)),
+            ("1 mount { a", Some(1)),
+            ("1 cread a /a 0 4097", Some(1)),
+        ] {
+            let fault = parse(rt.alloc(), text.as_bytes()).err();
+            assert_eq!(rt; fault, refused.map(ParseFault::BadLine), "{text}");
+        }
+        Ok(())
+    }
 }

@@ -1,4 +1,4 @@
-use Rattle.std.proofs.Common.{◌≡◌, ◌≤◌, length, take, length-take-le, sym, arith}
+use Rattle.std.proofs.Common.{length-take-le, sym, arith}
 use Rattle.ck_script.proofs.parser.long_line.Goals as goal
 
 pub slice_bounds-line_feeds-end : goal.slice_bounds-line_feeds-end

@@ -1,8 +1,6 @@
-use Rattle.std.proofs.Common.{◌≡◌, [], subst, sym, ap, ◌∙◌, Ok, take}
-use Rattle.std.specs.Str.Lines.{lines}
+use Rattle.std.proofs.Common.{subst, sym, ap, ◌∙◌, Ok}
 use Rattle.std.proofs.lemmas.Result.{err_from_is_err_and}
 use Rattle.ck_script.specs.Numbered.{IsNumbered}
-use Rattle.ck_script.specs.Reading.{read_lines}
 use Rattle.ck_script.specs.Steps.{IsFaultOf, calls_of}
 use Rattle.ck_script.proofs.OrderLemmas.{numbered_in_order}
 use Rattle.ck_script.proofs.ReadingLemmas.{read_script-is}

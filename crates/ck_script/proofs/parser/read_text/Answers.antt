@@ -1,4 +1,4 @@
-use Rattle.std.proofs.Common.{sym, subst, arith, ap, ◌∙◌, ◌≡◌, Some}
+use Rattle.std.proofs.Common.{sym, subst, arith, ◌∙◌, ◌≡◌, Some}
 use Rattle.std.proofs.lemmas.Result.{err_from_is_err_and}
 use Rattle.ck_script.specs.Steps.{IsRefusal, calls_after, calls_of}
 use Rattle.ck_script.proofs.ReadingLemmas.{next_read, next_refused, next_long}
