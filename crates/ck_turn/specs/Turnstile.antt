@@ -1,0 +1,9 @@
+-- What contracts see of a turnstile.
+use Rattle.std.specs.Prelude.{ℕ}
+use Rattle.atomic_table.specs.Seated.{TableId}
+
+-- which turnstile it is, how many passes may be split off, and the origin of the value that it was made with
+pub record Lock (O : Type 0) : Type 0 where
+  pub identity : TableId
+  pub callers : ℕ
+  pub origin : O

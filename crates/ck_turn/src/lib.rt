@@ -1,0 +1,10 @@
+//! A ticket lock: callers take a value in turn, and each knows a beginning of the list that the value stands for.
+#![tactic(auto)]
+
+mod plays;
+mod stands;
+mod turnstile;
+mod view;
+
+pub use stands::Stands;
+pub use turnstile::{Pass, Turnstile};
