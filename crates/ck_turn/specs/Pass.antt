@@ -3,11 +3,11 @@ use Rattle.std.specs.Prelude.{◌≡◌, ℕ, Bool, true, false, List, [], ◌�
 use Rattle.atomic_table.specs.Table.{Me}
 use Rattle.ck_turn.specs.declared.view.View.{View}
 use Rattle.ck_turn.specs.declared.view.Phase.TheVariants.{Out, Inside}
-use Rattle.ck_turn.specs.Turnstile.{Lock}
+use Rattle.ck_turn.specs.Turnstile.{Lock, Mark, mark_of}
 
 -- its turnstile, whether it is the first pass, which is the one that `new` gave, how many passes were split from it and how many joined into it, whether it is inside, and the entries that it has seen
 pub record PassState (E O : Type 0) : Type 0 where
-  pub turnstile : Lock O
+  pub turnstile : Mark O
   pub first : Bool
   pub splits : ℕ
   pub joins : ℕ
@@ -16,11 +16,11 @@ pub record PassState (E O : Type 0) : Type 0 where
 
 module _ {E O : Type 0} where
   abbrev pub IsPassOf : Lock O → PassState E O → Type 0
-  IsPassOf lock pass = pass.turnstile ≡ lock
+  IsPassOf lock pass = pass.turnstile ≡ mark_of lock
 
   -- what `new` gives
   abbrev pub first_pass : Lock O → PassState E O
-  first_pass lock = record { turnstile = lock; first = true; splits = 0; joins = 0; inside = false; seen = [] }
+  first_pass lock = record { turnstile = mark_of lock; first = true; splits = 0; joins = 0; inside = false; seen = [] }
 
   -- what `split` gives
   abbrev pub second_pass : PassState E O → PassState E O

@@ -3,6 +3,8 @@
 
 mod plays;
 mod stands;
+#[cfg(test)]
+mod tests;
 mod turnstile;
 mod view;
 

@@ -14,7 +14,6 @@ use crate::view::{Opening, Token, Turns, View};
 use atomic_table::Table;
 use std::alloc::Global;
 use std::marker::Model;
-use std::snapshot::Snapshot;
 use std::sync::Wait;
 
 // The words of the table: the next ticket, the ticket that is served, and how many entries the value has.
@@ -50,19 +49,17 @@ impl<T: Stands> Model for Turnstile<T> {
 #[derive(Drop)]
 pub struct Pass<T: Stands> {
     token: Token<T>,
-    turnstile: Snapshot<Turnstile<T>>,
 }
 
 impl<T: Stands> Model for Pass<T> {
-    ghost use Rattle.std.specs.Prelude.{◌≡◌, [], ◌∷◌};
     ghost use Rattle.ck_turn.specs.Pass.{PassState, IsAtRest};
     ghost use Rattle.ck_turn.specs.Phase.{is_inside};
 
     ghost Value = { PassState T.Entry T.Origin };
 
-    ghost view = { λ p. record { turnstile = p.turnstile.value; first = p.token.me.0.first; splits = p.token.me.0.splits; joins = p.token.me.0.joins; inside = is_inside p.token.me.0.phase; seen = p.token.me.0.seen } };
+    ghost view = { λ p. record { turnstile = record { identity = p.token.table_id; origins = p.token.me.0.origin }; first = p.token.me.0.first; splits = p.token.me.0.splits; joins = p.token.me.0.joins; inside = is_inside p.token.me.0.phase; seen = p.token.me.0.seen } };
 
-    ghost invariant = { λ p. (p.token.table_id ≡ p.turnstile.value.identity) × (p.token.me.0.origin ≡ p.turnstile.value.origin ∷ []) × IsAtRest p.token.me };
+    ghost invariant = { λ p. IsAtRest p.token.me };
 }
 
 impl<T: Stands> Turnstile<T> {
@@ -106,10 +103,7 @@ impl<T: Stands> Turnstile<T> {
         }
         words.load::<GiveBack>(&mut token, SERVING);
         words.fetch_add::<RaiseServing>(&mut token, SERVING, 1);
-        Pass {
-            token,
-            turnstile: Snapshot::of(self),
-        }
+        Pass { token }
     }
 
     /// Waits for its turn, and takes the value out.
@@ -175,7 +169,6 @@ impl<T: Stands> Turnstile<T> {
     {
         Pass {
             token: self.table.shared.split_seat::<Parting>(&mut pass.token),
-            turnstile: Snapshot::of(self),
         }
     }
 
@@ -186,10 +179,7 @@ impl<T: Stands> Turnstile<T> {
         requires outside { (pass.old.inside ≡ false) × (other.inside ≡ false) }
         ensures pass { pass.new ≡ record pass.old { joins = pass.old.joins + 1; seen = longer pass.old.seen other.seen } }
     {
-        let Pass {
-            token,
-            turnstile: _,
-        } = other;
+        let Pass { token } = other;
         self.table
             .shared
             .join_seat::<Meeting>(&mut pass.token, token);
@@ -205,10 +195,7 @@ impl<T: Stands> Turnstile<T> {
         ensures entries { T.entries result ≡ pass.seen }
     {
         let Turnstile { table } = self;
-        let Pass {
-            token,
-            turnstile: _,
-        } = pass;
+        let Pass { token } = pass;
         let mut closed = table.close_with(token);
         let value = closed.take(SLOT).unwrap();
         closed.free();

@@ -8,7 +8,7 @@ pub fetch_add-ticket-requires : goal.fetch_add-ticket-requires
 fetch_add-ticket-requires g c = (
   search rules,
   search rules,
-  draws g.T.Stands.entries g.T.Stands.origin _ _ _ _ (rests_outside c.pass.inside.token.me c.pass.invariant.2 (ap (λ p. p.inside) c.pass.view_is ∙ c.requires.outside)).0,
+  draws g.T.Stands.entries g.T.Stands.origin _ _ _ _ (rests_outside c.pass.inside.token.me c.pass.invariant (ap (λ p. p.inside) c.pass.view_is ∙ c.requires.outside)).0,
 )
 
 pub load-requires : goal.load-requires

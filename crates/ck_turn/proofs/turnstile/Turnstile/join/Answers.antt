@@ -5,8 +5,8 @@ use Rattle.ck_turn.proofs.turnstile.Turnstile.join.Goals as goal
 
 pub join_seat-requires : goal.join_seat-requires
 join_seat-requires g c =
-    let first = rests_outside c.pass.inside.token.me c.pass.invariant.2 (ap (λ p. p.inside) c.pass.view_is ∙ c.requires.outside.0) in
-    let other = rests_outside c.other.inside.token.me c.other.invariant.2 (ap (λ p. p.inside) c.other.view_is ∙ c.requires.outside.1) in (
+    let first = rests_outside c.pass.inside.token.me c.pass.invariant (ap (λ p. p.inside) c.pass.view_is ∙ c.requires.outside.0) in
+    let other = rests_outside c.other.inside.token.me c.other.invariant (ap (λ p. p.inside) c.other.view_is ∙ c.requires.outside.1) in (
       search rules,
       search rules,
       other.1,

@@ -8,7 +8,7 @@ use Rattle.ck_turn.proofs.turnstile.Turnstile.leave.Goals as goal
 
 pub swap-requires : goal.swap-requires
 swap-requires g c =
-    let inside = rests_inside c.pass.inside.token.me c.pass.invariant.2 (ap (λ p. p.inside) c.pass.view_is ∙ c.requires.inside) in
+    let inside = rests_inside c.pass.inside.token.me c.pass.invariant (ap (λ p. p.inside) c.pass.view_is ∙ c.requires.inside) in
     let begins : IsPrefix c.pass.inside.token.me.0.seen (g.T.Stands.entries c.args.value) = rw (ap (λ p. p.seen) c.pass.view_is) c.requires.begins in (
       search rules,
       search rules,
@@ -17,7 +17,7 @@ swap-requires g c =
 
 pub load-requires : goal.load-requires
 load-requires g c =
-    let inside = rests_inside c.pass.inside.token.me c.pass.invariant.2 (ap (λ p. p.inside) c.pass.view_is ∙ c.requires.inside) in
+    let inside = rests_inside c.pass.inside.token.me c.pass.invariant (ap (λ p. p.inside) c.pass.view_is ∙ c.requires.inside) in
     let now = c.exchange.ensures.3 in
     let grew = c.swap.ensures.2 in (
       search rules,
@@ -26,8 +26,8 @@ load-requires g c =
           (ap (λ v. v.phase) grew.1)
           (grew.0 ∙ ap (λ m. m.1) now ∙ ap (λ l. (0, Some c.args.value) ∷ rest l) inside.1)
           (sym (ap (λ v. v.seen) grew.1 ∙ ap (λ m. held g.T.Stands.entries m.1) now))
-          (ap (λ o. o ∷ []) (c.requires.origin ∙ sym (ap (λ l. l.origin) (ap (λ p. p.turnstile) c.pass.view_is ∙ c.requires.turnstile)))
-          ∙ sym (ap (λ v. v.origin) grew.1 ∙ ap (λ m. m.0.origin) now ∙ c.pass.invariant.1)),
+          (ap (λ o. o ∷ []) c.requires.origin
+          ∙ sym (ap (λ v. v.origin) grew.1 ∙ ap (λ m. m.0.origin) now ∙ ap (λ p. p.turnstile.origins) c.pass.view_is ∙ ap (λ m. m.origins) c.requires.turnstile)),
     )
 
 pub fetch_add-requires : goal.fetch_add-requires

@@ -11,6 +11,6 @@ split_seat-requires g c =
       search rules,
       splits g.T.Stands.entries g.T.Stands.origin _ _ _
           (ap (λ p. p.first) c.pass.view_is ∙ c.requires.first)
-          (rests_outside c.pass.inside.token.me c.pass.invariant.2 (ap (λ p. p.inside) c.pass.view_is ∙ c.requires.outside)).0
+          (rests_outside c.pass.inside.token.me c.pass.invariant (ap (λ p. p.inside) c.pass.view_is ∙ c.requires.outside)).0
           room,
     )
