@@ -3,3 +3,4 @@ pub mod Pass
 pub mod Phase
 pub mod Rule
 pub mod Steps
+pub mod Tally

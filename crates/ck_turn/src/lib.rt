@@ -3,6 +3,7 @@
 
 mod plays;
 mod stands;
+pub mod tally;
 #[cfg(test)]
 mod tests;
 mod turnstile;
