@@ -1,7 +1,7 @@
 -- The rule holds as the table is made; splitting a pass and joining one keep it; and what it gives at the end.
 use Rattle.std.proofs.Common.{◌≡◌, ◌≢◌, ℕ, ◌+◌, ◌^◌, ◌<◌, ◌≤◌, ◌⊎◌, true, false, List, [], ◌∷◌, ◌++◌, length, set, sym, refl, ap, ◌∙◌, subst, inl, inr, ⊎_elim, arith, length-set, length-append, Option, Some, None}
 use mathlib.Core.Logic.{dite}
-use mathlib.Core.Option.{some}
+use mathlib.Core.Option.{some, some-injective}
 use mathlib.Core.Option as maybe
 use mathlib.Core.List.{IsPrefix}
 use native.Mathlib.Decide.{ℕ_discrete}
@@ -11,13 +11,14 @@ use Rattle.atomic_table.proofs.Lists.{at_set, set_here, set_else, at_longer}
 use Rattle.ck_turn.specs.declared.view.View.{View}
 use Rattle.ck_turn.specs.declared.view.Opening.{Opening}
 use Rattle.ck_turn.specs.declared.view.Phase.TheVariants.{Out}
-use Rattle.ck_turn.specs.Phase.{has_ticket, is_away, has_all, is_live}
-use Rattle.ck_turn.specs.Pass.{longer}
+use Rattle.ck_turn.specs.Phase.{has_ticket, is_away, has_all, is_live, is_inside}
+use Rattle.ck_turn.specs.Pass.{IsAtRest, longer}
 use Rattle.ck_turn.specs.Rule.{bit, how_many, Fits, IsSeen, Role, Slot, Kept, first_view}
-use Rattle.ck_turn.specs.Steps.{after_split, split_off, after_join, spent}
+use Rattle.ck_turn.specs.Steps.{Mine, after_split, split_off, after_join, spent}
 use Rattle.ck_turn.proofs.Lists.{not_both, longer_has, longer_left, longer_right, at_below, at_end, lone}
 use Rattle.ck_turn.proofs.Phases.{away_is_live}
 use Rattle.ck_turn.proofs.Views.{count_at, count_end, count_two, one_view, holds_set, seen_set}
+use Rattle.ck_turn.proofs.Rests.{rests_outside}
 use Rattle.ck_turn.proofs.Turns.{slot_set}
 
 module _ {E O : Type 0} where
@@ -185,10 +186,13 @@ module _ {E O : Type 0} where
               (slot_set entries origin_of key s.homes r.longest s.views id v w at (ap is_away st) (ap is_away st) r.slot);
         }
 
-    -- once the first pass is the only one left, the value lies in the slot, and the pass has seen its entries
-    pub ends : (id : ℕ) (v : View E O) (ws : List ℕ) (xs : List (Option T)) → v.first ≡ true → v.phase ≡ Out → v.joins ≡ v.splits → Final (Seen K id v) ws xs
-        → (x : T) × (get_elem? xs 0 ≡ some (Some x)) × (origin_of x ∷ [] ≡ v.origin) × (entries x ≡ v.seen)
-    ends id v ws xs one st even fin =
+    -- once the first pass is the only one left, what was taken out of the slot is a value whose entries it has seen
+    pub ends : (id : ℕ) (me : Mine E O T) (ws : List ℕ) (xs : List (Option T)) (taken : Option T) → IsAtRest me → is_inside me.0.phase ≡ false
+        → me.0.first ≡ true → me.0.joins ≡ me.0.splits → Final (Seen K id me.0) ws xs → get_elem? xs 0 ≡ some taken
+        → (x : T) × (taken ≡ Some x) × (origin_of x ∷ [] ≡ me.0.origin) × (entries x ≡ me.0.seen)
+    ends id me ws xs taken rest out one even fin found =
+        let v : View E O = me.0 in
+        let st = (rests_outside me rest out).0 in
         let s = fin.0 in
         let r = fin.1.0 in
         let at = fin.1.1 in
@@ -205,7 +209,8 @@ module _ {E O : Type 0} where
         let h = r.is_seen in
         let sees : v.seen ≡ r.longest = ap (λ (y : View E O). y.seen) (only h.0 h.1 h.2 h.3) ∙ h.4 in
         ⊎_elim
-        (λ h. (h.0, fin.4 0 (Some h.0) (ap (λ (hs : Homes). get_elem? hs 0) h.1), ap (λ (o : O). o ∷ []) h.3 ∙ sym (f.from (ap is_live st)), h.2 ∙ sym sees))
+        (λ h. let lies = fin.4 0 (Some h.0) (ap (λ (hs : Homes). get_elem? hs 0) h.1) in
+            (h.0, some-injective taken (Some h.0) (sym found ∙ lies), ap (λ (o : O). o ∷ []) h.3 ∙ sym (f.from (ap is_live st)), h.2 ∙ sym sees))
         (λ o. let same : v ≡ o.1 = only o.0 o.1 o.2 (away_is_live o.1.phase o.3) in
             absurd (not_both (is_away v.phase) (ap (λ (y : View E O). is_away y.phase) same ∙ o.3) (ap is_away st)))
         r.slot
