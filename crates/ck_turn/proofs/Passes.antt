@@ -108,11 +108,11 @@ module _ {E O : Type 0} where
         let here : get_elem? (set (set l id w) other spent) id ≡ some w = set_else (set l id w) other id spent (λ e. apart (sym e)) ∙ set_here l id w (at_below l id v at) in
         dite (ℕ_discrete h.0 id)
         (λ e. let sees : v.seen ≡ longest = ap (λ (y : View E O). y.seen) (one_view l id h.0 v h.1 (sym e) at h.2) ∙ h.4 in
-            (id, w, here, live, subst (λ xs. longer xs u.seen ≡ longest) (sym sees) (longer_left u.seen longest right)))
+        (id, w, here, live, subst (λ xs. longer xs u.seen ≡ longest) (sym sees) (longer_left u.seen longest right)))
         (λ ne. dite (ℕ_discrete h.0 other)
-            (λ e. let sees : u.seen ≡ longest = ap (λ (y : View E O). y.seen) (one_view l other h.0 u h.1 (sym e) was h.2) ∙ h.4 in
-                (id, w, here, live, subst (λ xs. longer v.seen xs ≡ longest) (sym sees) (longer_right v.seen longest left)))
-            (λ no. (h.0, h.1, set_else (set l id w) other h.0 spent no ∙ (set_else l id h.0 w ne ∙ h.2), h.3, h.4)))
+        (λ e. let sees : u.seen ≡ longest = ap (λ (y : View E O). y.seen) (one_view l other h.0 u h.1 (sym e) was h.2) ∙ h.4 in
+        (id, w, here, live, subst (λ xs. longer v.seen xs ≡ longest) (sym sees) (longer_right v.seen longest left)))
+        (λ no. (h.0, h.1, set_else (set l id w) other h.0 spent no ∙ (set_else l id h.0 w ne ∙ h.2), h.3, h.4)))
 
     pub joins : (id : ℕ) (v : View E O) (other : ℕ) (u : View E O) → v.first ≡ true → v.phase ≡ Out → u.first ≡ false → u.phase ≡ Out
         → Joins K id v other u (after_join v u) spent
@@ -162,11 +162,11 @@ module _ {E O : Type 0} where
           longest = r.longest;
           words_are = r.words_are;
           as_many =
-          (let a = count_at has_ticket l other u spent at_other in
-          let c = count_at has_ticket s.views id v w at in
-          let d : bit (has_ticket u.phase) ≡ 0 = ap (λ p. bit (has_ticket p)) su in
-          let e = r.as_many in
-          omega arith);
+              (let a = count_at has_ticket l other u spent at_other in
+              let c = count_at has_ticket s.views id v w at in
+              let d : bit (has_ticket u.phase) ≡ 0 = ap (λ p. bit (has_ticket p)) su in
+              let e = r.as_many in
+              omega arith);
           few = (let a = r.few in omega arith);
           small = r.small;
           held_by = (λ d j e. holds_set r.served l other u spent d j at_other (λ t. absurd (not_both (has_ticket u.phase) t (ap has_ticket su)))
@@ -210,9 +210,9 @@ module _ {E O : Type 0} where
         let sees : v.seen ≡ r.longest = ap (λ (y : View E O). y.seen) (only h.0 h.1 h.2 h.3) ∙ h.4 in
         ⊎_elim
         (λ h. let lies = fin.4 0 (Some h.0) (ap (λ (hs : Homes). get_elem? hs 0) h.1) in
-            (h.0, some-injective taken (Some h.0) (sym found ∙ lies), ap (λ (o : O). o ∷ []) h.3 ∙ sym (f.from (ap is_live st)), h.2 ∙ sym sees))
+        (h.0, some-injective taken (Some h.0) (sym found ∙ lies), ap (λ (o : O). o ∷ []) h.3 ∙ sym (f.from (ap is_live st)), h.2 ∙ sym sees))
         (λ o. let same : v ≡ o.1 = only o.0 o.1 o.2 (away_is_live o.1.phase o.3) in
-            absurd (not_both (is_away v.phase) (ap (λ (y : View E O). is_away y.phase) same ∙ o.3) (ap is_away st)))
+        absurd (not_both (is_away v.phase) (ap (λ (y : View E O). is_away y.phase) same ∙ o.3) (ap is_away st)))
         r.slot
 
   -- the table as it is made, with no value in the slot

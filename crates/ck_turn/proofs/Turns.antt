@@ -110,7 +110,7 @@ module _ {E O : Type 0} where
     slot_set homes longest l id v w at a b = ⊎_elim
         (λ h. inl (h.0, h.1, h.2, h.3, λ j u e. ⊎_elim (λ t. ap (λ (y : View E O). is_away y.phase) (sym t.1) ∙ b) (λ t. h.4 j u t.1) (at_set l id j w u e)))
         (λ o. let apart : o.0 ≢ id = λ e. not_both (is_away v.phase) (ap (λ (y : View E O). is_away y.phase) (one_view l id o.0 v o.1 (sym e) at o.2) ∙ o.3) a in
-            inr (o.0, o.1, set_else l id o.0 w apart ∙ o.2, o.3, o.4))
+        inr (o.0, o.1, set_else l id o.0 w apart ∙ o.2, o.3, o.4))
 
     -- the value is out with the pass that has the turn, if with any
     slot_mine : (s : St) (r : K s) (id : ℕ) (v : View E O) → get_elem? s.views id ≡ some v
@@ -118,7 +118,7 @@ module _ {E O : Type 0} where
     slot_mine s r id v at t a = ⊎_elim
         (λ h. absurd (not_both (is_away v.phase) a (h.4 id v at)))
         (λ o. let same : id ≡ o.0 = one_turn_only s r id o.0 v o.1 at o.2 t (away_has_turn o.1.phase o.3) in
-            o.4 ∙ ap (λ (y : View E O). left_behind y.phase ∷ []) (sym (one_view s.views id o.0 v o.1 same at o.2)))
+        o.4 ∙ ap (λ (y : View E O). left_behind y.phase ∷ []) (sym (one_view s.views id o.0 v o.1 same at o.2)))
         r.slot
 
     slot_home : (s : St) (r : K s) (id : ℕ) (v : View E O) → get_elem? s.views id ≡ some v
@@ -126,7 +126,7 @@ module _ {E O : Type 0} where
     slot_home s r id v at t a = ⊎_elim
         (λ h. h)
         (λ o. let same : id ≡ o.0 = one_turn_only s r id o.0 v o.1 at o.2 t (away_has_turn o.1.phase o.3) in
-            absurd (not_both (is_away v.phase) (ap (λ (y : View E O). is_away y.phase) (one_view s.views id o.0 v o.1 same at o.2) ∙ o.3) a))
+        absurd (not_both (is_away v.phase) (ap (λ (y : View E O). is_away y.phase) (one_view s.views id o.0 v o.1 same at o.2) ∙ o.3) a))
         r.slot
 
     -- nobody else has the value out
@@ -150,18 +150,18 @@ module _ {E O : Type 0} where
         (seen_set r.longest s.views id v w at (λ e. (role.4, sees e)) r.is_seen)
         slot
 
-    pub draws : (n id : ℕ) (me : Mine E O T) → me.0.phase ≡ Out → Allows K n id me 0 (λ x. (x + 1) % 2 ^ 64) (DrawsTicket me)
-    draws n id me st s r _ at _ =
+    pub draws : (n id : ℕ) (me : Mine E O T) (k : ℕ) → k ≡ 1 → me.0.phase ≡ Out → Allows K n id me 0 (λ x. (x + k) % 2 ^ 64) (DrawsTicket me)
+    draws n id me k by st s r _ at _ =
         let t : ℕ = r.served + length r.queue in
         let w : View E O = waiting t me.0 in
         let f = r.each id me.0 at in
         let longer = length-append r.queue (id ∷ []) in
-        let next : (t % 2 ^ 64 + 1) % 2 ^ 64 ≡ (r.served + length (r.queue ++ id ∷ [])) % 2 ^ 64 = omega arith in (
+        let next : (t % 2 ^ 64 + k) % 2 ^ 64 ≡ (r.served + length (r.queue ++ id ∷ [])) % 2 ^ 64 = omega arith in (
           w,
           keeps,
           tt,
-          moved s r 0 ((get_or s.words 0 0 + 1) % 2 ^ 64) id me.0 w s.homes r.served (r.queue ++ id ∷ []) r.longest at (refl, refl, refl, ap is_live st, refl)
-              (ap (λ ws. set ws 0 ((get_or ws 0 0 + 1) % 2 ^ 64)) r.words_are ∙ ap (λ (z : ℕ). z ∷ r.served % 2 ^ 64 ∷ length r.longest ∷ []) next)
+          moved s r 0 ((get_or s.words 0 0 + k) % 2 ^ 64) id me.0 w s.homes r.served (r.queue ++ id ∷ []) r.longest at (refl, refl, refl, ap is_live st, refl)
+              (ap (λ ws. set ws 0 ((get_or ws 0 0 + k) % 2 ^ 64)) r.words_are ∙ ap (λ (z : ℕ). z ∷ r.served % 2 ^ 64 ∷ length r.longest ∷ []) next)
               (let e : bit (has_ticket me.0.phase) ≡ 0 = ap (λ p. bit (has_ticket p)) st in omega arith)
               (λ j u _ _ g. record { queued = λ h. let q = g.queued h in (q.0, q.1, at_longer r.queue (id ∷ []) q.0 j q.2); turn = g.turn; begins = g.begins; whole = g.whole; from = g.from })
               record {
@@ -187,21 +187,21 @@ module _ {E O : Type 0} where
         let found : get_or s.words 1 0 ≡ r.served % 2 ^ 64 = ap (λ ws. get_or ws 1 0) r.words_are in
         dite (ℕ_discrete (get_or s.words 1 0) (me.0.ticket % 2 ^ 64))
         (λ hit.
-            let w : View E O = at_phase Called me.0 in
-            let d : ℕ = q.0 in
-            let is : me.0.ticket ≡ r.served + d = q.1 in
-            let near : d < length r.queue = at_below r.queue d id q.2 in
-            let few = queue_small s r in
-            let now : me.0.ticket ≡ r.served = omega arith in (
-              w,
-              keeps,
-              tt,
-              still s r id me.0 w s.homes at (refl, refl, refl, ap is_live st, refl) (ap has_ticket st) refl
-                  record { queued = λ _. q; turn = λ _. now; begins = f.begins; whole = λ h. absurd (not_both false h refl); from = λ _. f.from (ap is_live st) }
-                  (λ e. e)
-                  (slot_set s.homes r.longest s.views id me.0 w at (ap is_away st) refl r.slot),
-              (refl, (λ _. refl), λ miss. absurd (miss hit)),
-            ))
+        let w : View E O = at_phase Called me.0 in
+        let d : ℕ = q.0 in
+        let is : me.0.ticket ≡ r.served + d = q.1 in
+        let near : d < length r.queue = at_below r.queue d id q.2 in
+        let few = queue_small s r in
+        let now : me.0.ticket ≡ r.served = omega arith in (
+          w,
+          keeps,
+          tt,
+          still s r id me.0 w s.homes at (refl, refl, refl, ap is_live st, refl) (ap has_ticket st) refl
+              record { queued = λ _. q; turn = λ _. now; begins = f.begins; whole = λ h. absurd (not_both false h refl); from = λ _. f.from (ap is_live st) }
+              (λ e. e)
+              (slot_set s.homes r.longest s.views id me.0 w at (ap is_away st) refl r.slot),
+          (refl, (λ _. refl), λ miss. absurd (miss hit)),
+        ))
         (λ miss. (
           me.0,
           keeps,
@@ -330,20 +330,20 @@ module _ {E O : Type 0} where
           from = f.from;
         }
 
-    pub raises : (n id : ℕ) (me : Mine E O T) → me.0.phase ≡ Gave → Allows K n id me 1 (λ x. (x + 1) % 2 ^ 64) (λ _ m. RaisesServing me m)
-    raises n id me st s r _ at _ =
+    pub raises : (n id : ℕ) (me : Mine E O T) (k : ℕ) → k ≡ 1 → me.0.phase ≡ Gave → Allows K n id me 1 (λ x. (x + k) % 2 ^ 64) (λ _ m. RaisesServing me m)
+    raises n id me k by st s r _ at _ =
         let f = r.each id me.0 at in
         let w : View E O = at_phase Out me.0 in
         let more : List ℕ = drop 1 r.queue in
         let is : r.queue ≡ id ∷ more = drop_at r.queue 0 id (first_of_queue r.served r.queue r.longest from id me.0 f (ap has_turn st)) in
         let long : length r.queue ≡ suc (length more) = ap length is in
         let next : (r.served + length r.queue) % 2 ^ 64 ≡ (r.served + 1 + length more) % 2 ^ 64 = ap (λ (z : ℕ). z % 2 ^ 64) (omega arith) in
-        let now : (r.served % 2 ^ 64 + 1) % 2 ^ 64 ≡ (r.served + 1) % 2 ^ 64 = omega arith in (
+        let now : (r.served % 2 ^ 64 + k) % 2 ^ 64 ≡ (r.served + 1) % 2 ^ 64 = omega arith in (
           w,
           keeps,
           tt,
-          moved s r 1 ((get_or s.words 1 0 + 1) % 2 ^ 64) id me.0 w s.homes (r.served + 1) more r.longest at (refl, refl, refl, ap is_live st, refl)
-              (ap (λ ws. set ws 1 ((get_or ws 1 0 + 1) % 2 ^ 64)) r.words_are ∙ (λ k. next k ∷ now k ∷ length r.longest ∷ []))
+          moved s r 1 ((get_or s.words 1 0 + k) % 2 ^ 64) id me.0 w s.homes (r.served + 1) more r.longest at (refl, refl, refl, ap is_live st, refl)
+              (ap (λ ws. set ws 1 ((get_or ws 1 0 + k) % 2 ^ 64)) r.words_are ∙ (λ k. next k ∷ now k ∷ length r.longest ∷ []))
               (let e : bit (has_ticket me.0.phase) ≡ 1 = ap (λ p. bit (has_ticket p)) st in omega arith)
               (λ j u ne _ g. later r.served r.queue more r.longest from id j u is ne g)
               record {

@@ -59,8 +59,8 @@ module _ {E O : Type 0} where
       → (has_ticket v.phase ≡ true → (has_ticket w.phase ≡ true) × (w.ticket ≡ v.ticket)) → Holds served l d j → Holds served (set l id w) d j
   holds_set served l id v w d j at keeps h = dite (ℕ_discrete j id)
       (λ e. let is : v ≡ h.0 = one_view l id j v h.0 (sym e) at h.1 in
-          let t = keeps (ap (λ (y : View E O). has_ticket y.phase) is ∙ h.2) in
-          (w, ap (λ (k : ℕ). get_elem? (set l id w) k) e ∙ set_here l id w (at_below l id v at), t.0, t.1 ∙ (ap (λ (y : View E O). y.ticket) is ∙ h.3)))
+      let t = keeps (ap (λ (y : View E O). has_ticket y.phase) is ∙ h.2) in
+      (w, ap (λ (k : ℕ). get_elem? (set l id w) k) e ∙ set_here l id w (at_below l id v at), t.0, t.1 ∙ (ap (λ (y : View E O). y.ticket) is ∙ h.3)))
       (λ ne. (h.0, set_else l id j w ne ∙ h.1, h.2, h.3))
 
   -- a view that changes and has still seen the longest list
@@ -68,6 +68,6 @@ module _ {E O : Type 0} where
       → (v.seen ≡ longest → (is_live w.phase ≡ true) × (w.seen ≡ longest)) → IsSeen longest l → IsSeen longest (set l id w)
   seen_set longest l id v w at keeps h = dite (ℕ_discrete h.0 id)
       (λ e. let is : v ≡ h.1 = one_view l id h.0 v h.1 (sym e) at h.2 in
-          let t = keeps (ap (λ (y : View E O). y.seen) is ∙ h.4) in
-          (id, w, set_here l id w (at_below l id v at), t.0, t.1))
+      let t = keeps (ap (λ (y : View E O). y.seen) is ∙ h.4) in
+      (id, w, set_here l id w (at_below l id v at), t.0, t.1))
       (λ ne. (h.0, h.1, set_else l id h.0 w ne ∙ h.2, h.3, h.4))

@@ -70,14 +70,19 @@ fn run<T: Grows + Send, R: Threads + Wait + Sync>(
         thread::scope_env(),
         rt,
         move |scope| -> Pass<T>
-            requires { IsPassOf lock.now first × (first.first ≡ true) × (first.inside ≡ false) × (first.splits ≡ 0) × (first.joins ≡ 0) × (callers ≤ lock.now.callers) }
-            ensures { IsPassOf lock.entry.now result × (result.first ≡ true) × (result.inside ≡ false) × (result.joins ≡ result.splits) }
+            requires { IsPassOf lock.now first × (first.first ≡ true) × (first.inside ≡ false)
+                × (first.splits ≡ 0) × (first.joins ≡ 0) × (callers ≤ lock.now.callers) }
+            ensures { IsPassOf lock.entry.now result × (result.first ≡ true) × (result.inside ≡ false)
+                × (result.joins ≡ result.splits) }
         {
             let mut first = first;
             let mut handles: Vec<PromisedHandle<Pass<T>, GivesBack<T>>> = Vec::new(alloc);
             for by in 0..callers {
                 let pass = lock.split(&mut first);
-                match scope.spawn_with(GivesBack(Snapshot::of(lock)), move || work(rt, lock, pass, by)) {
+                match scope.spawn_with(
+                    GivesBack(Snapshot::of(lock)),
+                    move || work(rt, lock, pass, by),
+                ) {
                     Ok(handle) => match handles.push(handle) {
                         Ok(()) => {}
                         Err(failed) => lock.join(&mut first, failed.value.join(rt)),
@@ -214,7 +219,9 @@ fn split_and_joined(rt: HostRuntime) -> Result<(), Fail> {
     assert!(&rt; one.visits() == visits.as_slice());
     let in_order = with_two_others(&rt, rt.alloc(), true).ok().ok_or("memory")?;
     assert!(&rt; in_order.visits() == visits.as_slice());
-    let turned = with_two_others(&rt, rt.alloc(), false).ok().ok_or("memory")?;
+    let turned = with_two_others(&rt, rt.alloc(), false)
+        .ok()
+        .ok_or("memory")?;
     assert!(&rt; turned.visits() == visits.as_slice());
     Ok(())
 }

@@ -1,7 +1,7 @@
 //! The lock, and the pass that each caller has.
 ghost use Rattle.std.specs.Prelude.{◌≡◌, ◌+◌, ◌<◌, ◌≤◌, ◌%◌, ◌^◌, [], ◌∷◌, IfOk, IfErr, true, false};
 ghost use mathlib.Core.List.{IsPrefix};
-ghost use Rattle.ck_turn.specs.declared.view.Phase.TheVariants.{Out, Waiting, Called};
+ghost use Rattle.ck_turn.specs.declared.view.Phase.TheVariants.{Waiting, Called};
 ghost use Rattle.ck_turn.specs.Pass.{IsPassOf, first_pass, second_pass, longer};
 ghost use Rattle.ck_turn.specs.Rule.{first_view};
 ghost use Rattle.ck_turn.specs.Steps.{at_phase};
@@ -40,7 +40,11 @@ impl<T: Stands> Model for Turnstile<T> {
 
     ghost Value = { Lock T.Origin };
 
-    ghost view = { λ t. record { identity = t.table.shared.table_id; callers = t.table.shared.key.callers; origin = T.origin t.table.shared.key.value } };
+    ghost view = { λ t. record {
+      identity = t.table.shared.table_id;
+      callers = t.table.shared.key.callers;
+      origin = T.origin t.table.shared.key.value;
+    } };
 
     ghost invariant = { λ t. (t.table.shared.table_id.words ≡ 3) × (t.table.shared.table_id.slots ≡ 1) };
 }
@@ -57,18 +61,25 @@ impl<T: Stands> Model for Pass<T> {
 
     ghost Value = { PassState T.Entry T.Origin };
 
-    ghost view = { λ p. record { turnstile = record { identity = p.token.table_id; origins = p.token.me.0.origin }; first = p.token.me.0.first; splits = p.token.me.0.splits; joins = p.token.me.0.joins; inside = is_inside p.token.me.0.phase; seen = p.token.me.0.seen } };
+    ghost view = { λ p. record {
+      turnstile = record { identity = p.token.table_id; origins = p.token.me.0.origin };
+      first = p.token.me.0.first;
+      splits = p.token.me.0.splits;
+      joins = p.token.me.0.joins;
+      inside = is_inside p.token.me.0.phase;
+      seen = p.token.me.0.seen;
+    } };
 
     ghost invariant = { λ p. IsAtRest p.token.me };
 }
 
 impl<T: Stands> Turnstile<T> {
-    /// A turnstile with the value, and its first pass. Up to `callers` further passes may be split off.
-    /// At `Err` there was no memory.
+    /// A turnstile with the value under it, and its first pass. At `Err` there was no memory.
     pub fn new(alloc: Global, value: T, callers: u32) -> Result<(Turnstile<T>, Pass<T>), T>
         requires callers { 1 ≤ callers }
         requires empty { T.entries value ≡ [] }
-        ensures turnstile { IfOk result (λ r. (r.0.callers ≡ callers) × (r.0.origin ≡ T.origin value)) }
+        ensures callers { IfOk result (λ r. r.0.callers ≡ callers) }
+        ensures origin { IfOk result (λ r. r.0.origin ≡ T.origin value) }
         ensures first { IfOk result (λ r. r.1 ≡ first_pass r.0) }
         ensures unchanged { IfErr result (λ given. given ≡ value) }
     {
@@ -106,7 +117,7 @@ impl<T: Stands> Turnstile<T> {
         Pass { token }
     }
 
-    /// Waits for its turn, and takes the value out.
+    /// Waits for its turn, and takes the value out. No clause says that it returns.
     pub fn enter<R: Wait>(&self, rt: &R, pass: &mut Pass<T>) -> T
         requires turnstile { IsPassOf self.now pass.old }
         requires outside { pass.old.inside ≡ false }
@@ -144,7 +155,7 @@ impl<T: Stands> Turnstile<T> {
         requires inside { pass.old.inside ≡ true }
         requires origin { T.origin value ≡ self.now.origin }
         requires begins { IsPrefix pass.old.seen (T.entries value) }
-        ensures pass { pass.new ≡ record pass.old { inside = false; seen = T.entries value } }
+        ensures { pass.new ≡ record pass.old { inside = false; seen = T.entries value } }
     {
         let words = &self.table.shared;
         let length = u64::from(value.length());
@@ -175,9 +186,10 @@ impl<T: Stands> Turnstile<T> {
     /// Ends a pass that was split off. The first pass has then seen the longer of the two lists.
     pub fn join(&self, pass: &mut Pass<T>, other: Pass<T>)
         requires turnstile { IsPassOf self.now pass.old × IsPassOf self.now other }
-        requires first { (pass.old.first ≡ true) × (other.first ≡ false) }
+        requires first { pass.old.first ≡ true }
+        requires second { other.first ≡ false }
         requires outside { (pass.old.inside ≡ false) × (other.inside ≡ false) }
-        ensures pass { pass.new ≡ record pass.old { joins = pass.old.joins + 1; seen = longer pass.old.seen other.seen } }
+        ensures { pass.new ≡ record pass.old { joins = pass.old.joins + 1; seen = longer pass.old.seen other.seen } }
     {
         let Pass { token } = other;
         self.table

@@ -45,8 +45,12 @@ pub(crate) struct Turns;
 
 pub(crate) type Token<T> = Seat<Option<T>, View<<T as Stands>::Entry, <T as Stands>::Origin>>;
 
-pub(crate) type Steps<T> =
-    Shared<Option<T>, View<<T as Stands>::Entry, <T as Stands>::Origin>, Opening<T>, Turns>;
+pub(crate) type Steps<T> = Shared<
+    Option<T>,
+    View<<T as Stands>::Entry, <T as Stands>::Origin>,
+    Opening<T>,
+    Turns,
+>;
 
 impl<T: Stands> TableRule<Option<T>, View<T::Entry, T::Origin>, Opening<T>> for Turns {
     ghost use Rattle.ck_turn.specs.Rule.{Kept, first_view};

@@ -1,4 +1,4 @@
-use Rattle.std.proofs.Common.{rules, sym, ap, ◌∙◌, ◌∷◌, Some}
+use Rattle.std.proofs.Common.{rules, refl, sym, ap, ◌∙◌, ◌∷◌, Some}
 use Rattle.atomic_table.specs.Table.{rest}
 use Rattle.ck_turn.proofs.Rests.{rests_outside}
 use Rattle.ck_turn.proofs.Turns.{draws, takes_it}
@@ -8,7 +8,7 @@ pub fetch_add-ticket-requires : goal.fetch_add-ticket-requires
 fetch_add-ticket-requires g c = (
   search rules,
   search rules,
-  draws g.T.Stands.entries g.T.Stands.origin _ _ _ _ (rests_outside c.pass.inside.token.me c.pass.invariant (ap (λ p. p.inside) c.pass.view_is ∙ c.requires.outside)).0,
+  draws g.T.Stands.entries g.T.Stands.origin _ _ _ _ _ refl (rests_outside c.pass.inside.token.me c.pass.invariant (ap (λ p. p.inside) c.pass.view_is ∙ c.requires.outside)).0,
 )
 
 pub load-requires : goal.load-requires

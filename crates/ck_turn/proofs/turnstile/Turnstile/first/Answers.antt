@@ -1,4 +1,4 @@
-use Rattle.std.proofs.Common.{rules, sym, ap, ◌∙◌, [], ◌∷◌, Some, None}
+use Rattle.std.proofs.Common.{rules, refl, sym, ap, ◌∙◌, [], ◌∷◌, Some, None}
 use Rattle.atomic_table.specs.Table.{rest}
 use Rattle.ck_turn.proofs.Turns.{vacates, gives_back, raises}
 use Rattle.ck_turn.proofs.turnstile.Turnstile.first.Goals as goal
@@ -21,4 +21,4 @@ load-requires-2 g c =
     )
 
 pub fetch_add-requires : goal.fetch_add-requires
-fetch_add-requires g c = (search rules, search rules, raises g.T.Stands.entries g.T.Stands.origin _ _ _ _ (ap (λ v. v.phase) c.load-2.ensures.2.1))
+fetch_add-requires g c = (search rules, search rules, raises g.T.Stands.entries g.T.Stands.origin _ _ _ _ _ refl (ap (λ v. v.phase) c.load-2.ensures.2.1))

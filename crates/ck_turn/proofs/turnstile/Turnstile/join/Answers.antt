@@ -11,5 +11,5 @@ join_seat-requires g c =
       search rules,
       other.1,
       search rules,
-      joins g.T.Stands.entries g.T.Stands.origin _ _ _ _ _ (ap (λ p. p.first) c.pass.view_is ∙ c.requires.first.0) first.0 (ap (λ p. p.first) c.other.view_is ∙ c.requires.first.1) other.0,
+      joins g.T.Stands.entries g.T.Stands.origin _ _ _ _ _ (ap (λ p. p.first) c.pass.view_is ∙ c.requires.first) first.0 (ap (λ p. p.first) c.other.view_is ∙ c.requires.second) other.0,
     )

@@ -1,4 +1,4 @@
-use Rattle.std.proofs.Common.{rules, sym, ap, ◌∙◌, [], ◌∷◌, Some}
+use Rattle.std.proofs.Common.{rules, refl, sym, ap, ◌∙◌, [], ◌∷◌, Some}
 use mathlib.Core.List.{IsPrefix}
 use Rattle.atomic_table.specs.Table.{rest}
 use Rattle.ck_turn.specs.Steps.{held}
@@ -31,4 +31,4 @@ load-requires g c =
     )
 
 pub fetch_add-requires : goal.fetch_add-requires
-fetch_add-requires g c = (search rules, search rules, raises g.T.Stands.entries g.T.Stands.origin _ _ _ _ (ap (λ v. v.phase) c.load.ensures.2.1))
+fetch_add-requires g c = (search rules, search rules, raises g.T.Stands.entries g.T.Stands.origin _ _ _ _ _ refl (ap (λ v. v.phase) c.load.ensures.2.1))
