@@ -1,0 +1,7 @@
+pub mod BitLemmas
+pub mod Counts
+pub mod MarkLemmas
+pub mod IndexLemmas
+pub mod MemberLemmas
+pub mod AllocationLemmas
+pub mod BlockLaws
