@@ -1,5 +1,5 @@
 -- What is printed of a play.
-use Rattle.std.proofs.Common.{◌≡◌, ℕ, IsTrue, List, [], ◌∷◌, Result, Ok, refl, sym, ap, subst, ◌∙◌}
+use Rattle.std.proofs.Common.{◌≡◌, ◌≤◌, ◌<◌, ℕ, IsTrue, List, [], ◌∷◌, length, get_or, Result, Ok, refl, sym, ap, subst, arith}
 use Rattle.std.specs.Prelude.{map as list_map}
 use Rattle.std.specs.List.{AllByRecursion}
 use Rattle.ck_model.specs.declared.call.Call.{Call}
@@ -17,6 +17,12 @@ use Rattle.ck_io.specs.Source.{SourceMeaning}
 use Rattle.ck_admin.specs.Play.{IsPlay}
 use Rattle.ck_admin.specs.Statuses.{IsPrintFault}
 use Rattle.ck_admin.specs.Top.{by_one, PrintsPlay, GainsFront, EndsPlay}
+
+-- a list of one
+pub singleton : {A : Type 0} (xs : List A) (x : A) → 1 ≤ length xs → length xs < 2 → x ≡ get_or xs 0 x → xs ≡ x ∷ []
+singleton [] x some few is = absurd (omega arith)
+singleton (y ∷ []) x some few is = ap (λ z. z ∷ []) (sym is)
+singleton (y ∷ z ∷ xs) x some few is = absurd (omega arith)
 
 abbrev pub calls_alone : List Line → List Call
 calls_alone lines = list_map (λ line. line.call) lines

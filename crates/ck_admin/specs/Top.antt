@@ -1,5 +1,6 @@
 -- What the top call promises.
-use Rattle.std.specs.Prelude.{◌≡◌, ◌++◌, ℕ, List, [], ◌∷◌, IsTrue, Result, Ok, Err, codes, map as list_map}
+use Rattle.std.specs.Prelude.{◌≡◌, ◌++◌, ℕ, Bool, true, false, nat_eq, List, [], ◌∷◌, IsTrue, Result, Ok, Err, codes, map as list_map}
+use Rattle.std.specs.Cmp.Lexicographic.{pointwise}
 use Rattle.ck_model.specs.declared.call.Call.{Call}
 use Rattle.ck_model.specs.declared.entry.Entry.{Entry}
 use Rattle.ck_model.specs.History.{call_at}
@@ -51,19 +52,21 @@ EndsPlay source left clock old new SinkFault = Rose old.faults new.faults × Pri
 EndsPlay source left clock old new NoMemory = GainsNothing old new
 
 -- the one word `play`
-abbrev pub IsPlayWord : List (List ℕ) → Type 0
-IsPlayWord words = words ≡ codes "play" ∷ []
+abbrev pub is_play_word : List (List ℕ) → Bool
+is_play_word [] = false
+is_play_word (word ∷ []) = pointwise nat_eq word (codes "play")
+is_play_word (word ∷ other ∷ words) = false
 
-abbrev pub IsUsage : Status → Type 0
-IsUsage Done = ⊥
-IsUsage (Refused words) = ⊥
-IsUsage Usage = Unit {0}
-IsUsage (BadScript line) = ⊥
-IsUsage (NotOpened words) = ⊥
-IsUsage DeviceFault = ⊥
-IsUsage SourceFault = ⊥
-IsUsage SinkFault = ⊥
-IsUsage NoMemory = ⊥
+abbrev pub is_usage : Status → Bool
+is_usage Done = false
+is_usage (Refused words) = false
+is_usage Usage = true
+is_usage (BadScript line) = false
+is_usage (NotOpened words) = false
+is_usage DeviceFault = false
+is_usage SourceFault = false
+is_usage SinkFault = false
+is_usage NoMemory = false
 
 -- nothing is read and nothing printed
 pub record IsUntouched (before after : SourceMeaning) (old new : SinkMeaning) : Type 0 where

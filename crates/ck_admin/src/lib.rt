@@ -6,5 +6,5 @@ mod playing;
 mod print;
 mod read;
 
-pub use command::Ended;
+pub use command::{Ended, top};
 pub use playing::play;
