@@ -1,3 +1,5 @@
 pub mod Places
 pub mod Scanned
 pub mod MountOrder
+pub mod Sizes
+pub mod Differences

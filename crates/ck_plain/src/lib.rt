@@ -3,6 +3,7 @@
 #![tactic(auto)]
 
 mod cells;
+mod counts;
 mod mounts;
 mod ordered;
 mod world;
