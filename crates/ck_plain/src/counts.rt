@@ -1,4 +1,4 @@
-ghost use Rattle.std.specs.Prelude.{◌≡◌};
+ghost use Rattle.std.specs.Prelude.{◌≡◌, ◌+◌, ◌<◌, ◌^◌};
 ghost use Rattle.std.specs.Option.{option_copied};
 ghost use Rattle.std.specs.FinMap as map;
 ghost use Rattle.ck_model.specs.Key.{is_block};
@@ -85,5 +85,13 @@ impl PlainMap {
             .iter()
             .filter(|entry| !newer.contains_key(&entry.0))
             .count()
+    }
+
+    /// How many keys there are at which it and the next newer map differ.
+    pub fn difference_count(&self, next: &PlainMap) -> usize
+        requires { map.len self.now + map.len next.now < 2 ^ 64 }
+        ensures { result ≡ map.len (differences self.now next.now) }
+    {
+        next.changed_count(self) + self.lost_count(next)
     }
 }

@@ -6,6 +6,7 @@ mod cells;
 mod counts;
 mod mounts;
 mod ordered;
+mod space;
 mod world;
 
 pub use cells::PlainMap;
