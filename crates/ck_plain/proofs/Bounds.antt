@@ -1,6 +1,7 @@
 -- How many blocks and records the checkpoints take at most.
 use Rattle.std.proofs.Common.{◌≡◌, ℕ, ◌+◌, ◌-◌, ◌*◌, ◌≤◌, ◌<◌, ◌^◌, Bool, true, false, cond, ◌&&◌, ◌||◌, List, [], ◌∷◌, length, take, drop, map as list_map, if◌then◌else◌, arith, length-take, length-drop}
 use Rattle.std.specs.FinMap as map
+use Rattle.std.proofs.lemmas.List.{length-map}
 use Rattle.ck_model.specs.Key.{is_block, key_cmp_total, key_cmp_exact}
 use Rattle.ck_model.specs.Cells.{Cells, differs, differences}
 use Rattle.ck_model.specs.World.{keeps_files}
@@ -9,6 +10,7 @@ use Rattle.ck_model.proofs.Sizes.{len-retain_keys-le}
 use Rattle.ck_model.proofs.Differences.{len-differences-le}
 use Rattle.ck_plain.specs.declared.world.PlainCheckpoint.{PlainCheckpoint}
 use Rattle.ck_plain.specs.Plain.{checkpoint_of}
+use Rattle.ck_plain.specs.Room.{held_beside, records_beside}
 
 pub own_block_count-le : (cells next : Cells) → own_block_count cells next ≤ map.len cells
 own_block_count-le cells next = len-retain_keys-le key_cmp_total key_cmp_exact cells (λ key. is_block key && differs (map.get cells key) (map.get next key))
@@ -47,3 +49,11 @@ length_newer xs = omega (arith, length-take (length xs - 1) (drop 1 xs), length-
 pub len-next_cells : (primary : Cells) (checkpoints : List PlainCheckpoint) → map.len primary < 2 ^ 32 → map.len (next_cells primary (list_map checkpoint_of checkpoints)) < 2 ^ 32
 len-next_cells primary [] cells = cells
 len-next_cells primary (checkpoint ∷ newer) cells = omega (arith, checkpoint.few_cells)
+
+pub held_beside-fits : (primary : Cells) (checkpoints : List PlainCheckpoint) → length checkpoints < 2 ^ 31 → map.len primary < 2 ^ 32 → held_beside primary (list_map checkpoint_of checkpoints) ≤ 4611686022722355200
+held_beside-fits primary checkpoints few cells =
+    omega (arith, len-retain_keys-le key_cmp_total key_cmp_exact primary is_block, held_by-fits false primary checkpoints few)
+
+pub records_beside-fits : (primary : Cells) (checkpoints : List PlainCheckpoint) → length checkpoints < 2 ^ 31 → map.len primary < 2 ^ 32 → records_beside primary (list_map checkpoint_of checkpoints) ≤ 9223372047592194048
+records_beside-fits primary checkpoints few cells =
+    omega (arith, difference_count-fits primary checkpoints few cells, length-map checkpoints checkpoint_of)

@@ -4,8 +4,10 @@
 
 mod cells;
 mod counts;
+mod giving;
 mod mounts;
 mod ordered;
+mod room;
 mod space;
 mod world;
 

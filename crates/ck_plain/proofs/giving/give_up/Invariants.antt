@@ -1,0 +1,11 @@
+use Rattle.std.proofs.Common.{◌≡◌, ℕ, ◌+◌, ◌-◌, ◌≤◌, length, map as list_map}
+use Rattle.ck_plain.specs.Plain.{checkpoint_of}
+use Rattle.ck_plain.specs.Room.{picks_for, left_of}
+use Rattle.ck_plain.proofs.giving.give_up.Given as goal
+
+abbrev pub invariant-loop-given : goal.invariant-loop-given
+invariant-loop-given l = record {
+  fewer : length l.checkpoints.items ≤ length l.initial.checkpoints.items;
+  given : picks_for l.most l.room (list_map checkpoint_of l.initial.checkpoints.items) ≡ l.given + picks_for (l.most - l.given) l.room (list_map checkpoint_of l.checkpoints.items);
+  left : (k : ℕ) → left_of (l.given + k) (list_map checkpoint_of l.initial.checkpoints.items) ≡ left_of k (list_map checkpoint_of l.checkpoints.items);
+}
