@@ -1,5 +1,8 @@
 -- The checkpoints of the plain program as the model's: what is kept, found and changed of them.
-use Rattle.std.proofs.Common.{◌≡◌, Bool, true, false, cond, List, [], ◌∷◌, filter, map as list_map, refl, ap}
+use Rattle.std.proofs.Common.{◌≡◌, ℕ, suc, ◌+◌, ◌<◌, Bool, true, false, cond, Option, Some, None, List, [], ◌∷◌, ◌++◌, length, get_or, take, drop, filter, map as list_map, refl, sym, ap, ◌∙◌, append_assoc, arith}
+use Rattle.std.specs.List.{find, take_while, prefix_len, slice_get}
+use Rattle.std.proofs.lemmas.List.{drop_more, take_more}
+use Rattle.std.proofs.lemmas.Option.{slice_get_read}
 
 -- a filter by what is made of each
 pub map_filter : {X Y : Type 0} (f : X → Y) (p : Y → Bool) (xs : List X) → list_map f (filter (λ x. p (f x)) xs) ≡ filter p (list_map f xs)
@@ -9,3 +12,41 @@ map_filter f p (x ∷ xs) =
       | true ↦ ap (λ ys. f x ∷ ys) (map_filter f p xs)
       | false ↦ map_filter f p xs
     ]
+
+pub map_append : {X Y : Type 0} (f : X → Y) (xs ys : List X) → list_map f (xs ++ ys) ≡ list_map f xs ++ list_map f ys
+map_append f [] ys = refl
+map_append f (x ∷ xs) ys = ap (λ zs. f x ∷ zs) (map_append f xs ys)
+
+take_while_cons : {Y : Type 0} (q : Y → Bool) (y : Y) (ys : List Y) → q y ≡ true → take_while q (y ∷ ys) ≡ y ∷ take_while q ys
+take_while_cons q y ys h = ap (λ b. take (cond b (1 + prefix_len q ys) 0) (y ∷ ys)) h ∙ ap (λ n. take n (y ∷ ys)) (one_more (prefix_len q ys))
+  where
+    one_more : (n : ℕ) → 1 + n ≡ suc n
+    one_more n = omega arith
+
+-- a walk along a list that has come to the element x at place i
+module _ {X Y : Type 0} (f : X → Y) (xs : List X) (i : ℕ) (x : X) (within : i < length xs) (is : x ≡ get_or xs i x) where
+  pub walked : list_map f (drop i xs) ≡ f x ∷ list_map f (drop (i + 1) xs)
+  walked = ap (list_map f) (drop_more xs i x within) ∙ ap (λ y. f y ∷ list_map f (drop (i + 1) xs)) (sym is)
+
+  passed : list_map f (take (i + 1) xs) ≡ list_map f (take i xs) ++ f x ∷ []
+  passed = ap (list_map f) (take_more xs i x within) ∙ map_append f (take i xs) (get_or xs i x ∷ []) ∙ ap (λ y. list_map f (take i xs) ++ f y ∷ []) (sym is)
+
+  -- the element that is found is the one here
+  pub find_here : (p : Y → Bool) → p (f x) ≡ true → find p (list_map f (drop i xs)) ≡ Some (f x)
+  find_here p h = ap (find p) walked ∙ ap (λ b. cond b (Some (f x)) (find p (list_map f (drop (i + 1) xs)))) h
+
+  pub find_later : (p : Y → Bool) → p (f x) ≡ false → find p (list_map f (drop i xs)) ≡ find p (list_map f (drop (i + 1) xs))
+  find_later p h = ap (find p) walked ∙ ap (λ b. cond b (Some (f x)) (find p (list_map f (drop (i + 1) xs)))) h
+
+  pub get_here : slice_get xs i ≡ Some x
+  get_here = slice_get_read xs (length xs) i x refl within is
+
+  -- an element more that passes
+  pub take_while_later : (q : Y → Bool) → q (f x) ≡ true
+      → list_map f (take i xs) ++ take_while q (list_map f (drop i xs)) ≡ list_map f (take (i + 1) xs) ++ take_while q (list_map f (drop (i + 1) xs))
+  take_while_later q h =
+      let rest = take_while q (list_map f (drop (i + 1) xs)) in
+      ap (λ ys. list_map f (take i xs) ++ take_while q ys) walked
+      ∙ ap (λ ys. list_map f (take i xs) ++ ys) (take_while_cons q (f x) (list_map f (drop (i + 1) xs)) h)
+      ∙ sym (append_assoc (list_map f (take i xs)) (f x ∷ []) rest)
+      ∙ ap (λ ys. ys ++ rest) (sym passed)

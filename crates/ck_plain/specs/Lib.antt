@@ -1,2 +1,3 @@
 pub mod Plain
 pub mod Room
+pub mod Outcome

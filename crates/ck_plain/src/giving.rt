@@ -1,4 +1,4 @@
-ghost use Rattle.std.specs.Prelude.{◌≡◌, ◌≤◌, ◌<◌, ◌^◌, length, map as list_map};
+ghost use Rattle.std.specs.Prelude.{◌≡◌, ◌≤◌, ◌<◌, ◌^◌, length, map as list_map, vec_len, vec_capacity};
 ghost use Rattle.ck_plain.specs.Plain.{checkpoint_of};
 ghost use Rattle.ck_plain.specs.Room.{blocks_fit_in, has_room, space_lack, pick_among, picks_for, left_of};
 
@@ -50,10 +50,11 @@ pub fn no_space(room: &Room, checkpoints: &[PlainCheckpoint]) -> Reply
 
 /// Gives up checkpoints while the call doesn't fit and there is one to give up, and says how many.
 pub fn give_up(room: &Room, checkpoints: &mut Vec<PlainCheckpoint>) -> u32
-    requires { length checkpoints.old.items < 2 ^ 31 }
-    ensures given { result ≡ picks_for (length checkpoints.old.items) room.now (list_map checkpoint_of checkpoints.old.items) }
+    requires { vec_len checkpoints.old < 2 ^ 31 }
+    ensures given { result ≡ picks_for (vec_len checkpoints.old) room.now (list_map checkpoint_of checkpoints.old.items) }
     ensures left { list_map checkpoint_of checkpoints.new.items ≡ left_of result (list_map checkpoint_of checkpoints.old.items) }
-    ensures fewer { length checkpoints.new.items ≤ length checkpoints.old.items }
+    ensures fewer { vec_len checkpoints.new ≤ vec_len checkpoints.old }
+    ensures capacity { vec_capacity checkpoints.new ≡ vec_capacity checkpoints.old }
 {
     let most = checkpoints.len() as u32;
     for given in 0..most {

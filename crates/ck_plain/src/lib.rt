@@ -2,8 +2,10 @@
 //! slow and small, and the yardstick of the product's own bodies.
 #![tactic(auto)]
 
+mod answer;
 mod cells;
 mod counts;
+mod freezing;
 mod giving;
 mod mounts;
 mod ordered;
@@ -11,6 +13,7 @@ mod room;
 mod space;
 mod world;
 
+pub use answer::Answer;
 pub use cells::PlainMap;
 pub use mounts::PlainMounts;
 pub use world::{Plain, PlainCheckpoint};

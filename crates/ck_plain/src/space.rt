@@ -1,4 +1,4 @@
-ghost use Rattle.std.specs.Prelude.{◌≡◌, ◌≤◌, ◌<◌, ◌^◌, ◌-◌, length, not, filter, map as list_map};
+ghost use Rattle.std.specs.Prelude.{◌≡◌, ◌≤◌, ◌<◌, ◌^◌, length, map as list_map, vec_len, vec_capacity};
 ghost use Rattle.std.specs.FinMap as map;
 ghost use Rattle.ck_model.specs.World.{keeps_files};
 ghost use Rattle.ck_model.specs.Space.{next_cells, held_by, difference_count, oldest_removable};
@@ -102,7 +102,8 @@ pub fn pick(checkpoints: &[PlainCheckpoint]) -> Option<u32>
 /// Removes the checkpoint with this id.
 pub fn drop_id(checkpoints: &mut Vec<PlainCheckpoint>, id: u32)
     ensures others { list_map checkpoint_of checkpoints.new.items ≡ without_id (list_map checkpoint_of checkpoints.old.items) id }
-    ensures fewer { length checkpoints.new.items ≤ length checkpoints.old.items }
+    ensures fewer { vec_len checkpoints.new ≤ vec_len checkpoints.old }
+    ensures capacity { vec_capacity checkpoints.new ≡ vec_capacity checkpoints.old }
 {
     checkpoints.retain(|checkpoint| checkpoint.id != id);
 }

@@ -1,4 +1,4 @@
-use Rattle.std.proofs.Common.{◌≡◌, ℕ, suc, ◌+◌, ◌-◌, true, false, Some, None, length, map as list_map, sym, ap, ◌∙◌, arith, rules}
+use Rattle.std.proofs.Common.{◌≡◌, ℕ, suc, ◌+◌, ◌-◌, true, false, Some, None, vec_len, map as list_map, sym, ap, ◌∙◌, arith, rules}
 use Rattle.ck_plain.specs.declared.world.PlainCheckpoint.{PlainCheckpoint}
 use Rattle.ck_plain.specs.Plain.{checkpoint_of}
 use Rattle.ck_plain.specs.Room.{has_room, pick_among, picks_for, left_of, without_id}
@@ -10,7 +10,7 @@ returns-then-fits-clause-given c =
     let room = c.args.room.now in
     let all = list_map checkpoint_of c.args.checkpoints.now.items in
     let now = list_map checkpoint_of c.loop-given.checkpoints.items in
-    let most : c.len-most.result ≡ length c.args.checkpoints.now.items = search rules in
+    let most : c.len-most.result ≡ vec_len c.args.checkpoints.now = search rules in
     let fits : has_room room now ≡ true = search rules in
     let done = picks_for-fits (c.len-most.result - c.loop-given.given) room now fits in
     omega (arith, ap (λ n. picks_for n room all) most, c.loop-given.invariant.given, done)
@@ -26,7 +26,7 @@ returns-in-None-clause-given c =
     let room = c.args.room.now in
     let all = list_map checkpoint_of c.args.checkpoints.now.items in
     let now = list_map checkpoint_of c.loop-given.checkpoints.items in
-    let most : c.len-most.result ≡ length c.args.checkpoints.now.items = search rules in
+    let most : c.len-most.result ≡ vec_len c.args.checkpoints.now = search rules in
     let none : pick_among now ≡ None = search rules in
     let done = picks_for-none (c.len-most.result - c.loop-given.given) room now none in
     omega (arith, ap (λ n. picks_for n room all) most, c.loop-given.invariant.given, done)
@@ -49,6 +49,7 @@ loop-given-preserved c =
     let step = picks_for-some c.len-most.result given room now c.in-Some.id c.loop-given-test.true full picked in
     record {
       fewer = omega (arith, c.drop_id.ensures.fewer, c.loop-given.invariant.fewer);
+      capacity = c.drop_id.ensures.capacity ∙ c.loop-given.invariant.capacity;
       given = omega (arith, c.loop-given.invariant.given, step, ap (picks_for (c.len-most.result - (given + 1)) room) dropped);
       left = λ k.
         let later : given + 1 + k ≡ given + suc k = omega arith in
