@@ -2,7 +2,6 @@
 use Rattle.std.proofs.Common.{◌≡◌, ℕ, ◌+◌, ◌≤◌, Bool, true, false, cond, not, ◌&&◌, Option, Some, None, is_some, List, [], ◌∷◌, ◌++◌, map as list_map, if◌then◌else◌, nat_eq, refl, sym, ap, ◌∙◌, arith}
 use Rattle.std.specs.Ordering.{eq_by_cmp}
 use Rattle.std.specs.Option.{option_or, option_map}
-use Rattle.std.specs.Cmp.{Equal-is}
 use Rattle.std.specs.FinMap.{find}
 use Rattle.std.specs.FinMap as map
 use Rattle.std.proofs.lemmas.Bool.Decides.{nat_tests}
@@ -13,6 +12,7 @@ use Rattle.ck_model.specs.declared.checkpoint.Kind.TheVariants.{Keeping, Nodata}
 use Rattle.ck_model.specs.Key.{key_cmp, key_cmp_total, key_cmp_exact, is_block}
 use Rattle.ck_model.specs.Cells.{Cells, Differences, differs, differences, mark_of, marked}
 use Rattle.ck_model.specs.World.{shown_by}
+use Rattle.ck_model.proofs.Marks.{get-marked, len-marked}
 use Rattle.ck_model.proofs.Sizes.{len-retain_keys-le, len_parts, len_same_keys, contains_key-retain_keys}
 
 find-append_or : {X : Type 0} (q : Key) (es fs : List (Key × X)) → find key_cmp q (es ++ fs) ≡ option_or (find key_cmp q es) (find key_cmp q fs)
@@ -91,26 +91,6 @@ len-differences a b =
 pub len-differences-le : (a b : Cells) → map.len (differences a b) ≤ map.len a + map.len b
 len-differences-le a b =
     omega (arith, len-differences a b, len-retain_keys-le key_cmp_total key_cmp_exact b (is_new_in a b), len-retain_keys-le key_cmp_total key_cmp_exact a (is_gone_in b))
-
--- a map whose blocks are marks has the same keys and stamps
-find-marked : (q : Key) (es : List (Key × Cell)) → find key_cmp q (list_map (λ e. (e.0, mark_of e.0 e.1)) es) ≡ option_map (mark_of q) (find key_cmp q es)
-find-marked q [] = refl
-find-marked q (e ∷ es) =
-    elim (eq_by_cmp key_cmp q e.0) as (λ b. eq_by_cmp key_cmp q e.0 ≡ b → cond b (Some (mark_of e.0 e.1)) (find key_cmp q (list_map (λ e. (e.0, mark_of e.0 e.1)) es)) ≡ option_map (mark_of q) (cond b (Some e.1) (find key_cmp q es))) [
-      | true ↦ λ tied. ap (λ k. Some (mark_of k e.1)) (sym (key_cmp_exact q e.0 ((Equal-is (key_cmp q e.0)).0 tied)))
-      | false ↦ λ _. find-marked q es
-    ] refl
-
-pub get-marked : (cells : Cells) (q : Key) → map.get (marked cells) q ≡ option_map (mark_of q) (map.get cells q)
-get-marked cells q =
-    map.get-from_entries key_cmp_total _ q ∙ find-marked q (map.entries cells) ∙ ap (option_map (mark_of q)) (sym (map.get-entries cells q))
-
-pub len-marked : (cells : Cells) → map.len (marked cells) ≡ map.len cells
-len-marked cells = len_same_keys key_cmp_total key_cmp_exact (marked cells) cells (λ q. ap is_some (get-marked cells q) ∙ is_some-map (mark_of q) (map.get cells q))
-  where
-    is_some-map : {X Y : Type 0} (f : X → Y) (o : Option X) → is_some (option_map f o) ≡ is_some o
-    is_some-map f None = refl
-    is_some-map f (Some x) = refl
 
 stamp_of_mark : (q : Key) (cell : Cell) → (mark_of q cell).stamp ≡ cell.stamp
 stamp_of_mark q cell = elim (is_block q) as (λ b. (if b then record cell { payload = None } else cell).stamp ≡ cell.stamp) [ true ↦ refl | false ↦ refl ]

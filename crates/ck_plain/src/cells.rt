@@ -3,8 +3,10 @@ ghost use Rattle.std.specs.Option.{option_copied};
 ghost use Rattle.std.specs.FinMap as map;
 ghost use Rattle.std.specs.FinMap.{is_sorted};
 ghost use Rattle.ck_model.specs.Key.{key_cmp};
+ghost use Rattle.ck_model.specs.Cells.{marked};
 ghost use Rattle.ck_model.specs.Ordered.{Edits};
 
+use crate::marking::mark_blocks;
 use crate::ordered::search;
 use ck_model::{Cell, Key, NoMemory};
 use std::alloc::Global;
@@ -126,6 +128,13 @@ impl PlainMap {
         ensures { self.new ≡ map.remove self.old key.now }
     {
         remove_entry(&mut self.entries, key);
+    }
+
+    /// Makes each block a mark.
+    pub fn mark(&mut self)
+        ensures { self.new ≡ marked self.old }
+    {
+        mark_blocks(&mut self.entries);
     }
 
     pub fn copy(&self, alloc: Global) -> Result<PlainMap, NoMemory>

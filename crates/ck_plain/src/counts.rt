@@ -9,7 +9,7 @@ ghost use Rattle.ck_model.proofs.Differences.{is_new_in, is_gone_in};
 use crate::PlainMap;
 use ck_model::{Cell, Key};
 
-fn is_block(key: &Key) -> bool
+pub fn is_block(key: &Key) -> bool
     ensures { result ≡ is_block key.now }
 {
     matches!(key, Key::Block(_, _))

@@ -7,6 +7,7 @@ mod cells;
 mod counts;
 mod freezing;
 mod giving;
+mod marking;
 mod mounts;
 mod ordered;
 mod room;
