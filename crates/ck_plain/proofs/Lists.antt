@@ -1,7 +1,8 @@
 -- The checkpoints of the plain program as the model's: what is kept, found and changed of them.
-use Rattle.std.proofs.Common.{◌≡◌, ℕ, suc, ◌+◌, ◌<◌, Bool, true, false, cond, Option, Some, None, List, [], ◌∷◌, ◌++◌, length, get_or, take, drop, filter, map as list_map, refl, sym, ap, ◌∙◌, append_assoc, arith}
+use Rattle.std.proofs.Common.{◌≡◌, ℕ, zero, suc, ◌+◌, ◌<◌, Bool, true, false, cond, Option, Some, None, List, [], ◌∷◌, ◌++◌, length, get_or, set, take, drop, filter, map as list_map, refl, sym, ap, ◌∙◌, append_assoc, arith}
 use Rattle.std.specs.List.{find, take_while, prefix_len, slice_get}
-use Rattle.std.proofs.lemmas.List.{drop_more, take_more}
+use Rattle.std.proofs.lemmas.List.{drop_more, take_more, length-map}
+use Rattle.std.proofs.lemmas.List.Edits.{map_over_more}
 use Rattle.std.proofs.lemmas.Option.{slice_get_read}
 
 -- a filter by what is made of each
@@ -50,3 +51,22 @@ module _ {X Y : Type 0} (f : X → Y) (xs : List X) (i : ℕ) (x : X) (within : 
       ∙ ap (λ ys. list_map f (take i xs) ++ ys) (take_while_cons q (f x) (list_map f (drop (i + 1) xs)) h)
       ∙ sym (append_assoc (list_map f (take i xs)) (f x ∷ []) rest)
       ∙ ap (λ ys. ys ++ rest) (sym passed)
+
+map_set : {X Y : Type 0} (f : X → Y) (xs : List X) (i : ℕ) (y : X) → list_map f (set xs i y) ≡ set (list_map f xs) i (f y)
+map_set f [] i y = refl
+map_set f (x ∷ xs) zero y = refl
+map_set f (x ∷ xs) (suc i) y = ap (λ ys. f x ∷ ys) (map_set f xs i y)
+
+get_or_map : {X Y : Type 0} (f : X → Y) (xs : List X) (i : ℕ) (d : X) → get_or (list_map f xs) i (f d) ≡ f (get_or xs i d)
+get_or_map f [] i d = refl
+get_or_map f (x ∷ xs) zero d = refl
+get_or_map f (x ∷ xs) (suc i) d = get_or_map f xs i d
+
+-- a walk that changes each element: the one at place i becomes y
+pub set_here : {X Y : Type 0} (f : X → Y) (g : Y → Y) (before now : List X) (i : ℕ) (x y : X) → i < length before
+    → list_map f now ≡ list_map g (take i (list_map f before)) ++ drop i (list_map f before) → x ≡ get_or now i x → f y ≡ g (f x)
+    → list_map f (set now i y) ≡ list_map g (take (i + 1) (list_map f before)) ++ drop (i + 1) (list_map f before)
+set_here f g before now i x y within so_far is changed =
+    let inside : i < length (list_map f before) = omega (arith, length-map before f) in
+    map_set f now i y ∙ ap (set (list_map f now) i) changed
+    ∙ map_over_more g (list_map f before) (list_map f now) i (f x) inside so_far (ap f is ∙ sym (get_or_map f now i x))

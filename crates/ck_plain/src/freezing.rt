@@ -1,9 +1,10 @@
-ghost use Rattle.std.specs.Prelude.{◌≡◌, ◌≤◌, not, length, find, take, take_while, slice_get, map as list_map};
+ghost use Rattle.std.specs.Prelude.{◌≡◌, ◌≤◌, not, length, find, take, take_while, slice_get, map as list_map, vec_len};
 ghost use Rattle.std.specs.Option.{option_copied, option_map};
 ghost use Rattle.std.specs.List.{list_any};
 ghost use Rattle.ck_model.specs.World.{is_named, has_id};
-ghost use Rattle.ck_model.specs.Freezing.{kind_of, any_keeps};
+ghost use Rattle.ck_model.specs.Freezing.{kind_of, any_keeps, as_nodata};
 ghost use Rattle.ck_plain.specs.Plain.{checkpoint_of};
+ghost use Rattle.ck_plain.specs.Named.{changed_named, with_removable};
 
 use crate::PlainCheckpoint;
 use crate::space::keeps_files;
@@ -91,4 +92,41 @@ pub fn older_keeps(checkpoints: &[PlainCheckpoint], name: &NameBytes) -> bool
     ensures { result ≡ any_keeps (take_while (λ checkpoint. not (is_named name.now checkpoint)) (list_map checkpoint_of checkpoints.now)) }
 {
     any_keeps(&checkpoints[..place_named(checkpoints, name)])
+}
+
+fn set_flag(checkpoint: &mut PlainCheckpoint, name: &NameBytes, on: bool)
+    ensures { checkpoint_of checkpoint.new ≡ changed_named name.now (with_removable on) (checkpoint_of checkpoint.old) }
+{
+    if is_named(name, checkpoint) {
+        checkpoint.removable = on;
+    }
+}
+
+/// Makes the checkpoint with this name removable, or not.
+pub fn set_flags(checkpoints: &mut Vec<PlainCheckpoint>, name: &NameBytes, on: bool)
+    ensures changed { list_map checkpoint_of checkpoints.new.items ≡ list_map (changed_named name.now (with_removable on)) (list_map checkpoint_of checkpoints.old.items) }
+    ensures len { vec_len checkpoints.new ≡ vec_len checkpoints.old }
+{
+    for checkpoint in checkpoints.iter_mut() {
+        set_flag(checkpoint, name, on);
+    }
+}
+
+fn set_nodata(checkpoint: &mut PlainCheckpoint, name: &NameBytes)
+    ensures { checkpoint_of checkpoint.new ≡ changed_named name.now as_nodata (checkpoint_of checkpoint.old) }
+{
+    if is_named(name, checkpoint) {
+        checkpoint.kind = Kind::Nodata;
+        checkpoint.cells.mark();
+    }
+}
+
+/// Makes the checkpoint with this name nodata.
+pub fn convert(checkpoints: &mut Vec<PlainCheckpoint>, name: &NameBytes)
+    ensures changed { list_map checkpoint_of checkpoints.new.items ≡ list_map (changed_named name.now as_nodata) (list_map checkpoint_of checkpoints.old.items) }
+    ensures len { vec_len checkpoints.new ≡ vec_len checkpoints.old }
+{
+    for checkpoint in checkpoints.iter_mut() {
+        set_nodata(checkpoint, name);
+    }
 }
