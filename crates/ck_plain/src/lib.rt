@@ -10,6 +10,7 @@ mod giving;
 mod marking;
 mod mounts;
 mod ordered;
+mod reporting;
 mod room;
 mod space;
 mod world;
