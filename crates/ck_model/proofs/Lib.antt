@@ -4,3 +4,16 @@ pub mod MountOrder
 pub mod Sizes
 pub mod Marks
 pub mod Differences
+pub mod CellsLemmas
+pub mod StreamsLemmas
+pub mod WorldLemmas
+pub mod SpaceLemmas
+pub mod RefusalsLemmas
+pub mod WalkLemmas
+pub mod ChangingLemmas
+pub mod FreezingLemmas
+pub mod ReportingLemmas
+pub mod StepLemmas
+pub mod HistoryLemmas
+pub mod LawsLemmas
+pub mod PathLemmas

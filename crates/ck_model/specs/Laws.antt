@@ -22,6 +22,12 @@ pub record IsWorld (w : World) : Type 0 where
   pub ids : IdsRise 1 w.checkpoints w.next.id
   pub marks : AllByRecursion (λ checkpoint. shown_by checkpoint.kind checkpoint.cells ≡ checkpoint.cells) w.checkpoints
 
+-- it stays so
+abbrev pub WorldsStay : Type 0
+WorldsStay =
+    (texts : Texts) (calls : CallsBy) (w : World) (history : List Entry) → IsWorld w → IsLegal texts calls w history →
+    IsWorld (state texts calls w history)
+
 -- the primary map at the entry that created the checkpoint with this id
 abbrev pub frozen_from : Texts → CallsBy → Past → List Entry → ℕ → Option Cells
 frozen_from texts calls past [] id = None

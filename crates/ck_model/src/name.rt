@@ -4,7 +4,7 @@ ghost use Rattle.std.specs.Ordering.{nat_cmp, as_partial_cmp};
 ghost use Rattle.std.specs.Cmp.{partial_order_from_own_ties};
 ghost use Rattle.std.specs.Cmp.Rules.{comparing};
 ghost use Rattle.std.proofs.Common.{rules};
-ghost use Rattle.ck_model.specs.Name.{IsName, IsNameByte};
+ghost use Rattle.ck_model.specs.Name.{IsName, IsNameByte, IsFileName, IsCheckpointName};
 
 use std::cmp::Ordering;
 use std::marker::Model;
@@ -55,6 +55,20 @@ impl NameBytes {
         ensures name { IsName result.now }
     {
         &self.bytes[..self.count as usize]
+    }
+
+    /// Whether a directory may hold the name.
+    pub fn is_file_name(&self) -> bool
+        ensures { IsTrue result ↔ IsFileName self.now }
+    {
+        !matches!(self.bytes(), b"." | b"..")
+    }
+
+    /// Whether a checkpoint may have the name.
+    pub fn is_checkpoint_name(&self) -> bool
+        ensures { IsTrue result ↔ IsCheckpointName self.now }
+    {
+        !self.bytes().starts_with(b"-")
     }
 }
 

@@ -3,19 +3,29 @@
 #![tactic(auto)]
 
 mod answer;
+mod blocks;
 mod cells;
+mod changes;
 mod counts;
 mod freezing;
 mod giving;
 mod marking;
 mod mounts;
+mod names;
 mod ordered;
+mod reading;
 mod reporting;
+mod resizing;
+mod retain;
 mod room;
 mod space;
+mod walk;
 mod world;
+mod writing;
 
 pub use answer::Answer;
 pub use cells::PlainMap;
+pub use changes::{Next, changed};
 pub use mounts::PlainMounts;
+pub use reading::{names_listed, range_read, status_of};
 pub use world::{Plain, PlainCheckpoint};

@@ -1,0 +1,14 @@
+//! Block devices: what reads give, and what a crash may leave of it.
+#![tactic(auto)]
+
+mod disk;
+mod fuse_disk;
+mod mem_disk;
+mod memory;
+#[cfg(test)]
+mod tests;
+
+pub use disk::{Block, Disk, Failed};
+pub use fuse_disk::FuseDisk;
+pub use mem_disk::{MemDisk, Torn};
+pub use memory::NoMemory;
