@@ -6,6 +6,7 @@ use ck_model::Limits;
 
 /// What a call asks for: the primary map before it and after it, the records that it takes beside
 /// those of the maps and checkpoints, and its new blocks.
+#[derive(Clone, Copy)]
 pub struct Room<'a> {
     pub limits: Limits,
     pub primary: &'a PlainMap,
