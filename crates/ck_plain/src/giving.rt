@@ -1,6 +1,6 @@
 ghost use Rattle.std.specs.Prelude.{◌≡◌, ◌≤◌, ◌<◌, ◌^◌, length, map as list_map, vec_len, vec_capacity};
 ghost use Rattle.ck_plain.specs.Plain.{checkpoint_of};
-ghost use Rattle.ck_plain.specs.Room.{blocks_fit_in, has_room, space_lack, pick_among, picks_for, left_of};
+ghost use Rattle.ck_plain.specs.Room.{ask_of, blocks_fit_in, has_room, space_lack, pick_among, picks_for, left_of};
 
 use crate::PlainCheckpoint;
 use crate::room::Room;
@@ -10,7 +10,7 @@ use ck_model::{Reply, SpaceOf};
 /// The call's blocks fit beside these checkpoints.
 fn blocks_fit(room: &Room, checkpoints: &[PlainCheckpoint]) -> bool
     requires { length checkpoints.now < 2 ^ 31 }
-    ensures { result ≡ blocks_fit_in room.now (list_map checkpoint_of checkpoints.now) }
+    ensures { result ≡ blocks_fit_in (ask_of room.now) (list_map checkpoint_of checkpoints.now) }
 {
     held_beside(room.primary, checkpoints) + room.blocks <= u64::from(room.limits.blocks)
 }
@@ -18,7 +18,7 @@ fn blocks_fit(room: &Room, checkpoints: &[PlainCheckpoint]) -> bool
 /// The call fits beside these checkpoints.
 pub fn fits(room: &Room, checkpoints: &[PlainCheckpoint]) -> bool
     requires { length checkpoints.now < 2 ^ 31 }
-    ensures { result ≡ has_room room.now (list_map checkpoint_of checkpoints.now) }
+    ensures { result ≡ has_room (ask_of room.now) (list_map checkpoint_of checkpoints.now) }
 {
     blocks_fit(room, checkpoints)
         && records_beside(room.next, checkpoints) + room.records <= u64::from(room.limits.records)
@@ -27,7 +27,7 @@ pub fn fits(room: &Room, checkpoints: &[PlainCheckpoint]) -> bool
 /// Why the call doesn't fit.
 pub fn no_space(room: &Room, checkpoints: &[PlainCheckpoint]) -> Reply
     requires { length checkpoints.now < 2 ^ 31 }
-    ensures { result ≡ space_lack room.now (list_map checkpoint_of checkpoints.now) }
+    ensures { result ≡ space_lack (ask_of room.now) (list_map checkpoint_of checkpoints.now) }
 {
     if blocks_fit(room, checkpoints) {
         let held = records_beside(room.primary, checkpoints);
@@ -51,7 +51,7 @@ pub fn no_space(room: &Room, checkpoints: &[PlainCheckpoint]) -> Reply
 /// Gives up checkpoints while the call doesn't fit and there is one to give up, and says how many.
 pub fn give_up(room: &Room, checkpoints: &mut Vec<PlainCheckpoint>) -> u32
     requires { vec_len checkpoints.old < 2 ^ 31 }
-    ensures given { result ≡ picks_for (vec_len checkpoints.old) room.now (list_map checkpoint_of checkpoints.old.items) }
+    ensures given { result ≡ picks_for (vec_len checkpoints.old) (ask_of room.now) (list_map checkpoint_of checkpoints.old.items) }
     ensures left { list_map checkpoint_of checkpoints.new.items ≡ left_of result (list_map checkpoint_of checkpoints.old.items) }
     ensures fewer { vec_len checkpoints.new ≤ vec_len checkpoints.old }
     ensures capacity { vec_capacity checkpoints.new ≡ vec_capacity checkpoints.old }
