@@ -92,7 +92,7 @@ differs-itself None = refl
 differs-itself (Some x) = grind (arith, nat_tests)
 
 -- marks keep their stamps
-stamp-mark_of : (q : Key) (cell : Cell) → (mark_of q cell).stamp ≡ cell.stamp
+pub stamp-mark_of : (q : Key) (cell : Cell) → (mark_of q cell).stamp ≡ cell.stamp
 stamp-mark_of q cell = elim (is_block q) as (λ b. (if b then record cell { payload = None } else cell).stamp ≡ cell.stamp) [ true ↦ refl | false ↦ refl ]
 
 pub differs-mark_of : (q : Key) (o p : Option Cell) → differs (option_map (mark_of q) o) p ≡ differs o p

@@ -1,4 +1,9 @@
 pub mod Places
+pub mod Scanned
+pub mod MountOrder
+pub mod Sizes
+pub mod Marks
+pub mod Differences
 pub mod CellsLemmas
 pub mod StreamsLemmas
 pub mod WorldLemmas

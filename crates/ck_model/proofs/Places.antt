@@ -197,6 +197,20 @@ module _ {K X : Type 0} {R : K → K → Ordering} (total : IsTotalOrder R) (exa
   pub len_of : (es : List (K × X)) → is_sorted R es ≡ true → map.len (map.from_sorted {R = R} es) ≡ length es
   len_of es sorted = len_is es (subst T (sym sorted) tt)
 
+  -- the map of the entries whose keys pass a test
+  pub retain_is : (p : K → Bool) (es : List (K × X)) → T (is_sorted R es) → map.from_sorted {R = R} (where_key R p es) ≡ map.retain_keys (map.from_sorted es) p
+  retain_is p es sorted = map.same_map total exact _ _ (λ q.
+      map.get-from_sorted R (where_key R p es) q (is_sorted-where_key R p es sorted)
+      ∙ find-where_key R p q (λ x tied. ap p (sym (exact q x tied))) es
+      ∙ ap (λ o. cond (p q) o None) (sym (map.get-from_sorted R es q sorted))
+      ∙ sym (map.get-retain_keys (map.from_sorted es) p q (λ x tied. ap p (sym (exact q x tied)))))
+
+  pub edits_retain : (p : K → Bool) (es new : List (K × X)) → is_sorted R es ≡ true → new ≡ where_key R p es → Edits R new (map.retain_keys (map.from_sorted es) p)
+  edits_retain p es new sorted is =
+      let start = subst T (sym sorted) tt in
+      let in_order = is_sorted-where_key R p es start in
+      record { sorted = ap (is_sorted R) is ∙ true_of _ in_order; means = ap (map.from_sorted {R = R}) is ∙ retain_is p es start; length = ap length is ∙ sym (len_is _ in_order) ∙ ap map.len (retain_is p es start) }
+
 -- no entries are the empty map
 pub from_nothing : {K X : Type 0} {R : K → K → Ordering} → map.from_sorted {X = X} {R = R} [] ≡ map.empty
 from_nothing {R = R} = map.empty_of_len _ (map.len-entries _ ∙ ap length (map.entries-from_sorted R [] tt))

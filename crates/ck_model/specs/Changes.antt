@@ -43,7 +43,7 @@ byte_after cells node at bytes index place =
     then slice_index bytes (here - at)
     else block_byte cells node index place
 
-abbrev pub block_after : Cells → ℕ → ℕ → List ℕ → ℕ → List ℕ
+unfoldable pub block_after : Cells → ℕ → ℕ → List ℕ → ℕ → List ℕ
 block_after cells node at bytes index = list_map (byte_after cells node at bytes index) (range_with_len 0 4096)
 
 -- the node, with its size raised to this end where it is less
@@ -60,7 +60,7 @@ written cells stamp node at (byte ∷ bytes) =
     (list_map (λ index. (Block node index, cell_of stamp (Bytes (block_after cells node at all index)))) (touched at (length all)))
 
 -- the first so many bytes of a block, and zeros behind
-abbrev pub cut_block : Cells → ℕ → ℕ → ℕ → List ℕ
+unfoldable pub cut_block : Cells → ℕ → ℕ → ℕ → List ℕ
 cut_block cells node index kept =
     list_map (λ place. if nat_lt place kept then block_byte cells node index place else 0) (range_with_len 0 4096)
 

@@ -1,11 +1,14 @@
-ghost use Rattle.std.specs.Prelude.{◌≡◌, true, OnOk, OnErr, IfOk, IsTrue};
+ghost use Rattle.std.specs.Prelude.{◌≡◌, true, not, OnOk, OnErr, IfOk, IsTrue};
 ghost use Rattle.std.specs.Option.{option_copied};
 ghost use Rattle.std.specs.FinMap as map;
 ghost use Rattle.std.specs.FinMap.{is_sorted};
-ghost use Rattle.ck_model.specs.Key.{key_cmp};
+ghost use Rattle.ck_model.specs.Key.{key_cmp, is_of, is_past};
+ghost use Rattle.ck_model.specs.Cells.{marked};
 ghost use Rattle.ck_model.specs.Ordered.{Edits};
 
+use crate::marking::mark_blocks;
 use crate::ordered::search;
+use crate::retain::{retain_not_of, retain_not_past};
 use ck_model::{Cell, Key, NoMemory};
 use std::alloc::Global;
 use std::marker::Model;
@@ -126,6 +129,27 @@ impl PlainMap {
         ensures { self.new ≡ map.remove self.old key.now }
     {
         remove_entry(&mut self.entries, key);
+    }
+
+    /// Makes each block a mark.
+    pub fn mark(&mut self)
+        ensures { self.new ≡ marked self.old }
+    {
+        mark_blocks(&mut self.entries);
+    }
+
+    /// Keeps what isn't a node or a block of it.
+    pub fn retain_not_of(&mut self, node: u32)
+        ensures { self.new ≡ map.retain_keys self.old (λ key. not (is_of node key)) }
+    {
+        retain_not_of(&mut self.entries, node);
+    }
+
+    /// Keeps what isn't a block of a node at a size or behind it.
+    pub fn retain_not_past(&mut self, node: u32, size: u64)
+        ensures { self.new ≡ map.retain_keys self.old (λ key. not (is_past node size key)) }
+    {
+        retain_not_past(&mut self.entries, node, size);
     }
 
     pub fn copy(&self, alloc: Global) -> Result<PlainMap, NoMemory>

@@ -2,11 +2,34 @@
 //! slow and small, and the yardstick of the product's own bodies.
 #![tactic(auto)]
 
+mod answer;
+mod blocks;
 mod cells;
+mod changes;
+mod counts;
+mod creating;
+mod freezing;
+mod giving;
+mod marking;
+mod mounting;
 mod mounts;
+mod names;
 mod ordered;
+mod reading;
+mod reporting;
+mod resizing;
+mod retain;
+mod room;
+mod space;
+mod standing;
+mod step;
+mod walk;
 mod world;
+mod writing;
 
+pub use answer::Answer;
 pub use cells::PlainMap;
+pub use changes::{Next, changed};
 pub use mounts::PlainMounts;
+pub use reading::{names_listed, range_read, status_of};
 pub use world::{Plain, PlainCheckpoint};

@@ -1,3 +1,6 @@
+ghost use Rattle.std.specs.Prelude.{◌≤◌, ◌<◌, ◌^◌, length};
+ghost use Rattle.std.specs.FinMap as map;
+
 use crate::{PlainMap, PlainMounts};
 use ck_model::{Counters, Kind, Limits, NameBytes};
 use std::alloc::Global;
@@ -12,9 +15,12 @@ pub struct PlainCheckpoint {
     /// When it was created, in seconds since 1970-01-01T00:00:00Z.
     pub ctime: u64,
     pub cells: PlainMap,
+    pub ghost few_cells: { map.len cells < 2 ^ 31 },
 }
 
 /// A world of the model. The checkpoints stand oldest first.
+///
+/// Its bounds are such that no number of a call overflows.
 #[derive(Drop)]
 pub struct Plain {
     pub limits: Limits,
@@ -23,4 +29,9 @@ pub struct Plain {
     pub next: Counters,
     pub mounts: PlainMounts,
     pub alloc: Global,
+    pub ghost few_records: { limits.records < 2 ^ 31 },
+    pub ghost few_live: { limits.checkpoints < 2 ^ 31 },
+    pub ghost few_cells: { map.len primary < 2 ^ 31 },
+    pub ghost within_limit: { length checkpoints.items ≤ limits.checkpoints },
+    pub ghost stamps: { next.stamp ≤ 2 ^ 63 },
 }

@@ -1,0 +1,7 @@
+use Rattle.std.proofs.Common.{rules}
+use Rattle.ck_model.proofs.Differences.{is_new_in}
+use Rattle.ck_plain.proofs.Counting.{counted}
+use Rattle.ck_plain.proofs.cells.PlainMap.changed_count.Goals as goal
+
+pub returns : goal.returns
+returns c = counted c.args.self.now (is_new_in c.args.older.now c.args.self.now) c.count.result (search rules)

@@ -1,0 +1,7 @@
+use Rattle.std.proofs.Common.{rules}
+use Rattle.ck_model.proofs.Differences.{is_gone_in}
+use Rattle.ck_plain.proofs.Counting.{counted}
+use Rattle.ck_plain.proofs.cells.PlainMap.lost_count.Goals as goal
+
+pub returns : goal.returns
+returns c = counted c.args.self.now (is_gone_in c.args.newer.now) c.count.result (search rules)
