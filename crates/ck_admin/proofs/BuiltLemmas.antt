@@ -1,5 +1,6 @@
 -- The calls of a script that is accepted are built.
 use Rattle.std.proofs.Common.{◌≡◌, ℕ, ◌+◌, ◌≤◌, Bool, true, false, cond, List, [], ◌∷◌, ◌++◌, length, Option, Some, None, Result, Ok, Err, codes, nat_eq, nat_le, refl, subst, sym, arith}
+use Rattle.std.specs.Prelude.{map as list_map}
 use Rattle.std.specs.List.{AllByRecursion}
 use Rattle.std.specs.Option.{option_map_or, option_map, option_and_then}
 use Rattle.std.proofs.lemmas.Option.{option_and_then_some}
@@ -8,6 +9,7 @@ use Rattle.ck_model.specs.declared.call.Call.{Call}
 use Rattle.ck_model.specs.declared.call.Call.TheVariants.{Make, Write, Create, Mount, Cread}
 use Rattle.ck_text.specs.Decimal.{number_of}
 use Rattle.ck_text.specs.Words.{words_of}
+use Rattle.ck_script.specs.declared.line.Line.{Line}
 use Rattle.ck_script.specs.Grammar.{call_of, make_of, write_of, write_within, create_of, mount_of, cread_of, path_of, number_up_to, bytes_of, checkpoint_name, letter_of, place_limit, is_text}
 use Rattle.ck_script.specs.Reading.{read_lines, read_script, call_in, call_by_words, one_more, are_few, is_skipped, long_line}
 use Rattle.ck_admin.specs.Built.{IsBuilt}
@@ -130,3 +132,8 @@ read_built long number calls result (line ∷ lines) all h =
 -- what a script is read as is built
 pub script_built : (bytes : List ℕ) (calls : List Call) → read_script bytes ≡ Ok calls → AllBuilt calls
 script_built bytes calls h = read_built (long_line bytes) 1 [] calls _ tt h
+
+-- the lines of such a script are built
+pub lines_built : (lines : List Line) → AllBuilt (list_map (λ line. line.call) lines) → AllByRecursion (λ line. IsBuilt line.call) lines
+lines_built [] all = tt
+lines_built (line ∷ lines) all = (all.0, lines_built lines all.1)

@@ -12,8 +12,10 @@ use Rattle.ck_model.specs.declared.entry.Entry.{Entry}
 use Rattle.ck_model.specs.declared.reply.Reply.{Reply}
 use Rattle.ck_model.specs.World.{World}
 use Rattle.ck_model.specs.Streams.{Texts}
-use Rattle.ck_model.specs.History.{Past, CallsBy, begun, past_of, past_after, world_after, IsLegal, IsLegalFrom, IsLegalNext, IsLegalWhole, IsRefusal, IsOfScript, call_at, calls_of, numbers_of, reply_number, is_write_fault, is_broken}
-use Rattle.ck_model.proofs.HistoryLemmas.{past_of-append, IsLegalFrom-append}
+use Rattle.ck_model.specs.History.{Past, CallsBy, begun, past_of, past_after, world_after, IsLegal, IsLegalFrom, IsLegalNext, IsLegalWhole, IsRefusal, IsOfScript, IsStepOf, is_fault, call_at, calls_of, numbers_of, reply_number, is_write_fault, is_broken}
+use Rattle.ck_model.specs.Step.{Outcome, step}
+use Rattle.ck_model.proofs.StepLemmas.{step-sound}
+use Rattle.ck_model.proofs.HistoryLemmas.{past_of-append, IsLegalFrom-append, IsStepOf-legal, world_after-step}
 use Rattle.ck_script.specs.declared.line.Line.{Line}
 use Rattle.ck_script.specs.Numbered.{calls_in, numbers_in, IsNumbered}
 use Rattle.ck_io.specs.Clock.{ClockMeaning}
@@ -109,6 +111,22 @@ pub record IsSoFar (lines : List Line) (clock : ClockMeaning) (at : ℕ) (w : Wo
   pub places : list_map place_of_entry history ≡ list_map place_of_line (take at lines)
   pub moments : IsTrue clock.tells → AllByRecursion (λ entry. entry.at ≡ clock.moment) history
   pub no_faults : AllByRecursion (λ entry. is_device_fault entry.reply ≡ false) history
+
+no_texts : Texts
+no_texts = record { full = λ id items. []; changes = λ first second items. [] }
+
+-- the step's own answer
+pub answers : (w next : World) (call : Call) (entry : Entry) →
+    ((texts : Texts) → step texts w entry.actor entry.at call ≡ record { reply = entry.reply; given = entry.given; next = next }) → Answers w next call entry
+answers w next call entry is =
+    let same = λ (texts : Texts). let same_reply : entry.reply ≡ (step texts w entry.actor entry.at call).reply = sym (ap (λ (o : Outcome). o.reply) (is texts)) in
+        let same_given : entry.given ≡ (step texts w entry.actor entry.at call).given = sym (ap (λ (o : Outcome). o.given) (is texts)) in
+        let both : IsStepOf (step texts w entry.actor entry.at call) entry = record { reply = same_reply; given = same_given } in both in
+    record {
+      legal = λ texts. IsStepOf-legal texts w call entry (same texts);
+      leads = λ texts. world_after-step texts w call entry (same texts) ∙ ap (λ (o : Outcome). o.next) (is texts);
+      no_fault = ap (λ b. b && nat_le (reply_number entry.reply) 20) (ap is_fault (same no_texts).reply ∙ (step-sound no_texts w entry.actor entry.at call).no_fault);
+    }
 
 pub started : (lines : List Line) (clock : ClockMeaning) → IsSoFar lines clock 0 opening []
 started lines clock = record { past = λ texts. refl; legal = λ texts. tt; places = refl; moments = λ told. tt; no_faults = tt }
