@@ -11,6 +11,8 @@ mod ordered;
 mod reading;
 mod resizing;
 mod retain;
+#[cfg(test)]
+mod tests;
 mod walk;
 mod world;
 mod writing;
