@@ -134,59 +134,69 @@ fn tells(rt: &impl Abort, plain: &Plain, text: &str, want: &str) -> Result<(), N
     Ok(())
 }
 
-#[test]
-fn a_write_over_a_block_edge_reads_back(rt: HostRuntime) -> Result<(), Fail> {
-    let mut plain = fresh(rt.alloc())?;
-    make(&rt, &mut plain, "/f", "Done")?;
-    write(&rt, &mut plain, 4094, "abcd")?;
-    fill(&rt, &mut plain, 4095, 1, b'B')?;
-    reads(&rt, &plain, 4092, 100, b"\0\0aBcd")?;
-    tells(&rt, &plain, "/f", "StatFile(1, 4098)")?;
+// The one name of a directory.
+fn names(rt: &impl Abort, plain: &Plain, text: &str, want: &[u8]) -> Result<(), NoMemory> {
+    let path = path(rt, plain.alloc, text)?;
+    match names_listed(plain.alloc, &plain.primary, &path)? {
+        Reply::Names(names) => {
+            assert_eq!(rt; names.items().len(), 1);
+            assert_eq!(rt; names.items()[0].name.bytes(), want);
+        }
+        _ => panic!(rt; "no names"),
+    }
     Ok(())
 }
 
-#[test]
-fn a_file_is_cut_and_grows(rt: HostRuntime) -> Result<(), Fail> {
-    let mut plain = fresh(rt.alloc())?;
-    make(&rt, &mut plain, "/f", "Done")?;
-    write(&rt, &mut plain, 0, "abcdef")?;
-    fill(&rt, &mut plain, 8192, 9, b'z')?;
-    trunc(&rt, &mut plain, 3)?;
+fn write_over_a_block_edge(rt: &impl Abort, plain: &mut Plain) -> Result<(), NoMemory> {
+    make(rt, plain, "/f", "Done")?;
+    write(rt, plain, 4094, "abcd")?;
+    fill(rt, plain, 4095, 1, b'B')?;
+    reads(rt, plain, 4092, 100, b"\0\0aBcd")?;
+    tells(rt, plain, "/f", "StatFile(1, 4098)")
+}
+
+fn cut_and_grow(rt: &impl Abort, plain: &mut Plain) -> Result<(), NoMemory> {
+    make(rt, plain, "/f", "Done")?;
+    write(rt, plain, 0, "abcdef")?;
+    fill(rt, plain, 8192, 9, b'z')?;
+    trunc(rt, plain, 3)?;
     assert_eq!(rt; plain.primary.len(), 4);
-    trunc(&rt, &mut plain, 8194)?;
-    reads(&rt, &plain, 1, 5, b"bc\0\0\0")?;
-    reads(&rt, &plain, 8192, 100, b"\0\0")?;
-    Ok(())
+    trunc(rt, plain, 8194)?;
+    reads(rt, plain, 1, 5, b"bc\0\0\0")?;
+    reads(rt, plain, 8192, 100, b"\0\0")
 }
 
-#[test]
-fn the_first_refusal_is_told(rt: HostRuntime) -> Result<(), Fail> {
-    let mut plain = fresh(rt.alloc())?;
-    make(&rt, &mut plain, "/f", "Done")?;
+fn refuse_in_order(rt: &impl Abort, plain: &mut Plain) -> Result<(), NoMemory> {
+    make(rt, plain, "/f", "Done")?;
     for (text, want) in [("/", "Exists"), ("/f/x", "NotDir"), ("/x/y", "NotFound")] {
-        make(&rt, &mut plain, text, want)?;
+        make(rt, plain, text, want)?;
     }
-    rm(&rt, &mut plain, "/", "IsDir")?;
     for (text, want) in [("/", "Root"), ("/f", "NotDir"), ("/x", "NotFound")] {
-        rmdir(&rt, &mut plain, text, want)?;
+        rmdir(rt, plain, text, want)?;
     }
-    mv(&rt, &mut plain, "/f", "/", "Exists")?;
+    rm(rt, plain, "/", "IsDir")?;
+    mv(rt, plain, "/f", "/", "Exists")
+}
+
+fn move_out_of_a_directory(rt: &impl Abort, plain: &mut Plain) -> Result<(), NoMemory> {
+    mkdir(rt, plain, "/d", "Done")?;
+    make(rt, plain, "/d/g", "Done")?;
+    rmdir(rt, plain, "/d", "NotEmpty")?;
+    mv(rt, plain, "/d/g", "/f", "Done")?;
+    rmdir(rt, plain, "/d", "Done")?;
+    names(rt, plain, "/", b"f")
+}
+
+#[test]
+fn files_are_written_and_read(rt: HostRuntime) -> Result<(), Fail> {
+    write_over_a_block_edge(&rt, &mut fresh(rt.alloc())?)?;
+    cut_and_grow(&rt, &mut fresh(rt.alloc())?)?;
     Ok(())
 }
 
 #[test]
-fn a_file_is_moved_and_a_directory_removed(rt: HostRuntime) -> Result<(), Fail> {
-    let mut plain = fresh(rt.alloc())?;
-    mkdir(&rt, &mut plain, "/d", "Done")?;
-    make(&rt, &mut plain, "/d/g", "Done")?;
-    rmdir(&rt, &mut plain, "/d", "NotEmpty")?;
-    mv(&rt, &mut plain, "/d/g", "/f", "Done")?;
-    rmdir(&rt, &mut plain, "/d", "Done")?;
-    let reply = names_listed(rt.alloc(), &plain.primary, &path(&rt, rt.alloc(), "/")?)?;
-    let Reply::Names(names) = reply else {
-        panic!(rt; "no names");
-    };
-    assert_eq!(rt; names.items().len(), 1);
-    assert_eq!(rt; names.items()[0].name.bytes(), b"f".as_slice());
+fn names_are_made_and_removed(rt: HostRuntime) -> Result<(), Fail> {
+    refuse_in_order(&rt, &mut fresh(rt.alloc())?)?;
+    move_out_of_a_directory(&rt, &mut fresh(rt.alloc())?)?;
     Ok(())
 }
