@@ -29,9 +29,9 @@ pub asks : (ask : Ask) (w : World) (effect : World → World) (new : ℕ) → w.
 asks ask w effect new limits primary blocks records = record {
   fit = λ cs i. nat_le (held_beside (primary i) cs + blocks i) (limits i).blocks && nat_le (records cs i) (limits i).records;
   lack = λ cs i.
-    if nat_le (held_beside (primary i) cs + blocks i) (limits i).blocks
-    then NoSpace Records (records_beside (primary i) cs) (records cs i - records_beside (primary i) cs) (limits i).records
-    else NoSpace Blocks (held_beside (primary i) cs) (blocks i) (limits i).blocks;
+      if nat_le (held_beside (primary i) cs + blocks i) (limits i).blocks
+      then NoSpace Records (records_beside (primary i) cs) (records cs i - records_beside (primary i) cs) (limits i).records
+      else NoSpace Blocks (held_beside (primary i) cs) (blocks i) (limits i).blocks;
 }
 
 given_up-is : (ask : Ask) (w : World) (effect : World → World) (new : ℕ) → AsksFor ask w effect new
@@ -39,7 +39,7 @@ given_up-is : (ask : Ask) (w : World) (effect : World → World) (new : ℕ) →
 given_up-is ask w effect new asked zero checkpoints = refl
 given_up-is ask w effect new asked (suc most) checkpoints =
     λ i. if asked.fit checkpoints i then 0
-      else option_map_or (λ id. given_up-is ask w effect new asked most (without_id checkpoints id) i + 1) (pick_among checkpoints) 0
+    else option_map_or (λ id. given_up-is ask w effect new asked most (without_id checkpoints id) i + 1) (pick_among checkpoints) 0
 
 without_picks-is : (given : ℕ) (w : World) (checkpoints : List Checkpoint) → without_picks given (beside w checkpoints) ≡ beside w (left_of given checkpoints)
 without_picks-is zero w checkpoints = refl
@@ -75,7 +75,7 @@ pub with_room-fits : (ask : Ask) (w : World) (effect : World → World) (new : �
 with_room-fits ask w effect new reply given left asked gives fit =
     with_room-at ask w effect new reply given left asked gives
     ∙ ap (λ b. if b then record { reply = reply; given = given; next = effect (beside w left) } else record { reply = no_space (beside w left) (effect (beside w left)) new; given = given; next = beside w left })
-      (asked.fit left ∙ fit)
+    (asked.fit left ∙ fit)
 
 -- and one that doesn't fit is told why
 pub with_room-full : (ask : Ask) (w : World) (effect : World → World) (new : ℕ) (reply : Reply) (given : ℕ) (left : List Checkpoint) → AsksFor ask w effect new → Gives ask w given left
@@ -83,7 +83,7 @@ pub with_room-full : (ask : Ask) (w : World) (effect : World → World) (new : �
 with_room-full ask w effect new reply given left asked gives full =
     with_room-at ask w effect new reply given left asked gives
     ∙ ap (λ b. if b then record { reply = reply; given = given; next = effect (beside w left) } else record { reply = no_space (beside w left) (effect (beside w left)) new; given = given; next = beside w left })
-      (asked.fit left ∙ full)
+    (asked.fit left ∙ full)
     ∙ ap (λ (r : Reply). record { reply = r; given = given; next = beside w left }) (asked.lack left)
 
 -- a checkpoint that shows what the primary map has takes one record, and no key at which maps differ

@@ -74,7 +74,7 @@ written-few cells stamp node at (byte ∷ bytes) within =
       length-map (touched at (length all)) put,
       touched-few at (length all) end,
       len-with_cells-le cells (grown_to cells stamp node (at + length all)),
-      one_at_most (nat_lt (size_at cells node) (at + length all)) sized
+      one_at_most (nat_lt (size_at cells node) (at + length all)) sized,
     )
 
 cut_to-few : (cells : Cells) (stamp node size : ℕ) → map.len (cut_to cells stamp node size) ≤ map.len cells + 1
@@ -84,7 +84,7 @@ cut_to-few cells stamp node size =
       arith,
       len-with_cells-le (map.retain_keys cells kept) (cut_at cells stamp node size),
       len-retain_keys-le key_cmp_total key_cmp_exact cells kept,
-      cut_at-one cells stamp node size
+      cut_at-one cells stamp node size,
     )
   where
     cut_at-one : (cells : Cells) (stamp node size : ℕ) → length (cut_at cells stamp node size) ≤ 1

@@ -11,7 +11,7 @@ use ck_model::{Key, NoMemory, Payload};
 use std::alloc::Global;
 
 /// The bytes of a block.
-pub const BLOCK: u32 = 4096;
+pub const BLOCK: u64 = 4096;
 
 /// The bytes that a file's block holds, none where it has no cell.
 pub fn bytes_of(cells: &PlainMap, node: u32, index: u32) -> &[u8]
@@ -38,13 +38,14 @@ fn byte_after(
     at: u64,
     bytes: &[u8],
     index: u32,
-    place: u32,
+    place: u64,
 ) -> u8
     requires old { old.now ≡ bytes_in (content_at cells.now (Block node index)) }
     requires at { at + length bytes.now < 2 ^ 64 }
+    requires place { place < 4096 }
     ensures { result ≡ byte_after cells.now node at bytes.now index place }
 {
-    let here = u64::from(index) * u64::from(BLOCK) + u64::from(place);
+    let here = u64::from(index) * BLOCK + place;
     if at <= here && here < at + bytes.len() as u64 {
         byte_at(bytes, (here - at) as usize)
     } else {
@@ -73,11 +74,11 @@ pub fn block_after(
 }
 
 /// A byte of a block of which so many bytes are kept.
-fn kept_byte(old: &[u8], kept: u32, place: u32) -> u8
-    ensures { result ≡ (if nat_lt place kept then slice_index old.now place else 0) }
+fn kept_byte(block: &[u8], kept: u64, place: u64) -> u8
+    ensures { result ≡ (if nat_lt place kept then slice_index block.now place else 0) }
 {
     if place < kept {
-        byte_at(old, place as usize)
+        byte_at(block, place as usize)
     } else {
         0
     }
@@ -89,7 +90,7 @@ pub fn cut_block(
     cells: &PlainMap,
     node: u32,
     index: u32,
-    kept: u32,
+    kept: u64,
 ) -> Result<Vec<u8>, NoMemory>
     ensures { IfOk result (λ block. block.items ≡ cut_block cells.now node index kept) }
 {

@@ -32,4 +32,5 @@ pub use cells::PlainMap;
 pub use changes::{Next, changed};
 pub use mounts::PlainMounts;
 pub use reading::{names_listed, range_read, status_of};
+pub use step::is_plain_call;
 pub use world::{Plain, PlainCheckpoint};

@@ -6,7 +6,7 @@ ghost use Rattle.ck_plain.specs.Answered.{reply_of};
 ghost use Rattle.ck_plain.specs.Ranges.{IsCountable};
 
 use crate::PlainMap;
-use crate::blocks::{byte_at, bytes_of};
+use crate::blocks::{BLOCK, byte_at, bytes_of};
 use crate::walk::{directory_at, file_at, is_directory_at, node_at};
 use crate::writing::size_at;
 use ck_model::{Cell, Child, Children, Key, NoMemory, Octets, Path, Payload, Reply};
@@ -17,8 +17,8 @@ fn file_byte(cells: &PlainMap, node: u32, at: u64) -> u8
     ensures { result ≡ file_byte cells.now node at }
 {
     byte_at(
-        bytes_of(cells, node, (at / 4096) as u32),
-        (at % 4096) as usize,
+        bytes_of(cells, node, (at / BLOCK) as u32),
+        (at % BLOCK) as usize,
     )
 }
 

@@ -4,7 +4,7 @@ ghost use Rattle.ck_model.specs.Changes.{cut_at, cut_to, resized};
 ghost use Rattle.ck_model.specs.Changing.{file_limit};
 
 use crate::PlainMap;
-use crate::blocks::cut_block;
+use crate::blocks::{BLOCK, cut_block};
 use crate::names::cell_of;
 use crate::writing::size_at;
 use ck_model::{Key, NoMemory, Octets, Payload};
@@ -22,8 +22,8 @@ fn put_cut(
     requires { size ≤ file_limit }
     ensures { OnOk result (next.new ≡ with_cells next.old (cut_at old.now stamp node size)) }
 {
-    let last = (size / 4096) as u32;
-    let kept = (size % 4096) as u32;
+    let last = (size / BLOCK) as u32;
+    let kept = size % BLOCK;
     if kept != 0 && old.contains_key(&Key::Block(node, last)) {
         let block = cut_block(alloc, old, node, last, kept)?;
         next.put(

@@ -4,6 +4,7 @@ ghost use Rattle.std.specs.FinMap.{is_sorted};
 ghost use Rattle.ck_model.specs.Key.{key_cmp, is_of, is_past};
 ghost use Rattle.ck_model.specs.Ordered.{Edits};
 
+use crate::blocks::BLOCK;
 use ck_model::{Cell, Key};
 
 fn is_of(node: u32, key: &Key) -> bool
@@ -20,7 +21,7 @@ fn is_past(node: u32, size: u64, key: &Key) -> bool
     ensures { result ≡ is_past node size key.now }
 {
     match key {
-        Key::Block(number, index) => *number == node && size <= u64::from(*index) * 4096,
+        Key::Block(number, index) => *number == node && size <= u64::from(*index) * BLOCK,
         _ => false,
     }
 }

@@ -34,9 +34,7 @@ fn held_by(older: bool, primary: &PlainMap, checkpoints: &[PlainCheckpoint]) -> 
         [checkpoint, newer @ ..] => {
             let keeps = older || keeps_files(checkpoint.kind);
             let own = if keeps {
-                checkpoint
-                    .cells
-                    .own_block_count(next_cells(primary, newer)) as u64
+                checkpoint.cells.own_block_count(next_cells(primary, newer)) as u64
             } else {
                 0
             };

@@ -44,11 +44,7 @@ impl Plain {
         }
         let delayed = older_keeps(&self.checkpoints, name);
         convert(&mut self.checkpoints, name);
-        Answer::told(if delayed {
-            Reply::Delayed
-        } else {
-            Reply::Done
-        })
+        Answer::told(if delayed { Reply::Delayed } else { Reply::Done })
     }
 
     /// Makes a checkpoint removable, or not.

@@ -1,4 +1,4 @@
-ghost use Rattle.std.specs.Prelude.{◌≡◌, ◌≤◌, ◌<◌, ◌^◌, IfOk, OnErr};
+ghost use Rattle.std.specs.Prelude.{◌≡◌, ◌≤◌, ◌<◌, ◌^◌, ◌↔◌, IsTrue, IfOk, OnErr};
 ghost use Rattle.std.specs.FinMap as map;
 ghost use Rattle.ck_model.specs.World.{empty_world};
 ghost use Rattle.ck_model.specs.Space.{new_block_count};
@@ -8,12 +8,31 @@ ghost use Rattle.ck_plain.specs.Plain.{world_of};
 ghost use Rattle.ck_plain.specs.Changed.{IsChanging, changed_by, with_next};
 ghost use Rattle.ck_plain.specs.Outcome.{IsPlainCall, outcome_with, with_files};
 
+use crate::changes::FILE_LIMIT;
 use crate::giving::{fits, give_up, no_space};
 use crate::reporting::{info_of, listing_of};
 use crate::room::Room;
-use crate::{Answer, Next, Plain, PlainMap, PlainMounts, changed, names_listed, range_read, status_of};
+use crate::{
+    Answer, Next, Plain, PlainMap, PlainMounts, changed, names_listed, range_read, status_of,
+};
 use ck_model::{Call, Cell, Counters, Key, Limits, NoMemory, Payload, Reply};
 use std::alloc::Global;
+
+/// The plain program answers this call: its places and sizes are within the limit, and it asks for no stream.
+pub fn is_plain_call(call: &Call) -> bool
+    ensures { IsTrue result ↔ IsPlainCall call.now }
+{
+    match call {
+        Call::Write(_, at, _) => *at <= FILE_LIMIT,
+        Call::Fill(_, at, _, _) => *at <= FILE_LIMIT,
+        Call::Trunc(_, size) => *size <= FILE_LIMIT,
+        Call::Read(_, at, _) => *at <= FILE_LIMIT,
+        Call::Cread(_, _, at, _) => *at <= FILE_LIMIT,
+        Call::Backup(_, _) => false,
+        Call::Full(_) => false,
+        _ => true,
+    }
+}
 
 impl Plain {
     /// The root directory alone.

@@ -5,7 +5,7 @@ ghost use Rattle.ck_model.specs.Changing.{file_limit};
 ghost use Rattle.ck_plain.specs.Blocks.{blocks_after};
 
 use crate::PlainMap;
-use crate::blocks::block_after;
+use crate::blocks::{BLOCK, block_after};
 use crate::names::cell_of;
 use crate::walk::content_at;
 use ck_model::{Key, NoMemory, Octets, Payload};
@@ -44,8 +44,8 @@ fn put_blocks(
     requires limit { at + length bytes.now ≤ file_limit }
     ensures { OnOk result (next.new ≡ with_cells next.old (blocks_after old.now stamp node at bytes.now (touched at (length bytes.now)))) }
 {
-    let first = (at / 4096) as u32;
-    let end = (at + bytes.len() as u64).div_ceil(4096) as u32;
+    let first = (at / BLOCK) as u32;
+    let end = (at + bytes.len() as u64).div_ceil(BLOCK) as u32;
     for index in (first..end).rev() {
         let block = block_after(alloc, old, node, at, bytes, index)?;
         next.put(

@@ -8,4 +8,4 @@ abbrev pub invariant-loop-checkpoint : goal.invariant-loop-checkpoint
 invariant-loop-checkpoint l =
     list_map checkpoint_of l.checkpoint-items
     ≡ list_map (changed_named l.name as_nodata) (take l.checkpoint-index (list_map checkpoint_of l.initial.checkpoint-items))
-      ++ drop l.checkpoint-index (list_map checkpoint_of l.initial.checkpoint-items)
+    ++ drop l.checkpoint-index (list_map checkpoint_of l.initial.checkpoint-items)

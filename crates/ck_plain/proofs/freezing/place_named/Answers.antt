@@ -26,7 +26,7 @@ loop-at-preserved c =
     let other : is_named c.args.name.now (checkpoint_of here) ≡ false = search rules in
     record {
       older = c.loop-at.invariant.older
-        ∙ take_while_later checkpoint_of all c.loop-at.at here within c.index-checkpoints-at.is (λ checkpoint. not (is_named c.args.name.now checkpoint)) (ap not other);
+          ∙ take_while_later checkpoint_of all c.loop-at.at here within c.index-checkpoints-at.is (λ checkpoint. not (is_named c.args.name.now checkpoint)) (ap not other);
       found = c.loop-at.invariant.found ∙ find_later checkpoint_of all c.loop-at.at here within c.index-checkpoints-at.is (is_named c.args.name.now) other;
     }
 

@@ -7,6 +7,6 @@ use Rattle.ck_plain.proofs.freezing.place_named.Given as goal
 abbrev pub invariant-loop-at : goal.invariant-loop-at
 invariant-loop-at l = record {
   older : take_while (λ checkpoint. not (is_named l.name checkpoint)) (list_map checkpoint_of l.checkpoints)
-    ≡ list_map checkpoint_of (take l.at l.checkpoints) ++ take_while (λ checkpoint. not (is_named l.name checkpoint)) (list_map checkpoint_of (drop l.at l.checkpoints));
+      ≡ list_map checkpoint_of (take l.at l.checkpoints) ++ take_while (λ checkpoint. not (is_named l.name checkpoint)) (list_map checkpoint_of (drop l.at l.checkpoints));
   found : find (is_named l.name) (list_map checkpoint_of l.checkpoints) ≡ find (is_named l.name) (list_map checkpoint_of (drop l.at l.checkpoints));
 }

@@ -7,4 +7,4 @@ abbrev pub invariant-loop-checkpoint : goal.invariant-loop-checkpoint
 invariant-loop-checkpoint l =
     list_map checkpoint_of l.checkpoint-items
     ≡ list_map (changed_named l.name (with_removable l.on)) (take l.checkpoint-index (list_map checkpoint_of l.initial.checkpoint-items))
-      ++ drop l.checkpoint-index (list_map checkpoint_of l.initial.checkpoint-items)
+    ++ drop l.checkpoint-index (list_map checkpoint_of l.initial.checkpoint-items)

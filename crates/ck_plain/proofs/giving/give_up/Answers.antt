@@ -52,8 +52,8 @@ loop-given-preserved c =
       capacity = c.drop_id.ensures.capacity ∙ c.loop-given.invariant.capacity;
       given = omega (arith, c.loop-given.invariant.given, step, ap (picks_for (c.len-most.result - (given + 1)) ask) dropped);
       left = λ k.
-        let later : given + 1 + k ≡ given + suc k = omega arith in
-        ap (λ n. left_of n all) later ∙ c.loop-given.invariant.left (suc k) ∙ left_of-some k now c.in-Some.id picked ∙ ap (left_of k) (sym dropped);
+          let later : given + 1 + k ≡ given + suc k = omega arith in
+          ap (λ n. left_of n all) later ∙ c.loop-given.invariant.left (suc k) ∙ left_of-some k now c.in-Some.id picked ∙ ap (left_of k) (sym dropped);
     }
 
 pub returns-clause-left : goal.returns-clause-left

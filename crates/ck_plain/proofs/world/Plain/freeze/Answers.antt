@@ -20,7 +20,7 @@ invariant_of-push_reserved c = record {
     arith,
     ap (λ (cells : Cells). map.len cells) c.requires.shows,
     len-shown_by (kind_of c.args.nodata) c.args.self.now.primary,
-    c.args.self.now.few_cells
+    c.args.self.now.few_cells,
   );
 }
 
@@ -60,8 +60,8 @@ returns c =
       cells = shown_by (kind_of c.args.nodata) w.primary;
     } in
     let pushed : list_map checkpoint_of c.push_reserved.new.self.items ≡ left ++ new ∷ [] =
-        ap (list_map checkpoint_of) c.push_reserved.ensures.items
-        ∙ map_append checkpoint_of c.give_up-given.new.checkpoints.items _
-        ∙ (λ i. left ++ record new { kind = c.kind_of.ensures i; cells = c.requires.shows i } ∷ []) in
+    ap (list_map checkpoint_of) c.push_reserved.ensures.items
+    ∙ map_append checkpoint_of c.give_up-given.new.checkpoints.items _
+    ∙ (λ i. left ++ record new { kind = c.kind_of.ensures i; cells = c.requires.shows i } ∷ []) in
     with_room-fits ask w effect 0 (Created w.next.id) c.give_up-given.result left (frozen-asked c.args.name.now c.args.nodata c.args.removable c.args.at w) gives fit
     ∙ ap (λ (checkpoints : List Checkpoint). record { reply = Created w.next.id; given = c.give_up-given.result; next = record w { checkpoints = checkpoints; next = record (w.next) { id = w.next.id + 1 } } }) (sym pushed)

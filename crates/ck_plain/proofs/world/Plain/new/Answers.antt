@@ -18,7 +18,7 @@ invariant_of-result c = record {
     ap (λ (cells : Cells). map.len cells) c.in_ok-put.ensures.ok,
     len-insert-le key_cmp_total key_cmp_exact c.new-primary.result (Node 0) (cell_of 0 Dir),
     ap (λ (cells : Cells). map.len cells) c.new-primary.ensures,
-    map.len-empty key_cmp Cell
+    map.len-empty key_cmp Cell,
   );
   within_limit = search rules;
   stamps = omega arith;

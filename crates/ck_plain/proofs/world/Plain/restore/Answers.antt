@@ -21,14 +21,14 @@ returns c =
     let gone = c.remove-checkpoint.result in
     let within : place < length all = search rules in
     let found : find (is_named name) (list_map checkpoint_of all) ≡ Some (checkpoint_of gone) =
-        sym (rw c.deref.ensures.value at c.place_named-place.ensures.found)
-        ∙ ap (option_map checkpoint_of) (slice_get_read all (length all) place gone refl within c.remove-checkpoint.ensures.value) in
+    sym (rw c.deref.ensures.value at c.place_named-place.ensures.found)
+    ∙ ap (option_map checkpoint_of) (slice_get_read all (length all) place gone refl within c.remove-checkpoint.ensures.value) in
     let kept : keeps_files c.index.result.now.kind ≡ true = search rules in
     let same : c.index.result.now ≡ gone = c.index.ensures ∙ get_or_default all place c.index.result.now gone within ∙ sym c.remove-checkpoint.ensures.value in
     let keeps : keeps_files gone.kind ≡ true = sym (ap (λ (x : PlainCheckpoint). keeps_files x.kind) same) ∙ kept in
     let rest : list_map checkpoint_of c.truncate.new.self.items ≡ older_than (world_of plain) name =
-        ap (list_map checkpoint_of) (c.truncate.ensures.items ∙ ap (take place) c.remove-checkpoint.ensures.items ∙ take-remove all place within)
-        ∙ rw c.deref.ensures.value at c.place_named-place.ensures.older in
+    ap (list_map checkpoint_of) (c.truncate.ensures.items ∙ ap (take place) c.remove-checkpoint.ensures.items ∙ take-remove all place within)
+    ∙ rw c.deref.ensures.value at c.place_named-place.ensures.older in
     let next : World = record (world_of plain) { primary = gone.cells; checkpoints = list_map checkpoint_of c.truncate.new.self.items } in
     restored-is (world_of plain) name (checkpoint_of gone) (list_map checkpoint_of c.truncate.new.self.items) found keeps rest
     ∙ ap (λ (answer : Answer). outcome_with answer next) (sym c.told-2.ensures)

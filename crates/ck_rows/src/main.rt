@@ -1,0 +1,22 @@
+//! Plays worked rows on the plain program. Standard input has a row's calls, a line each, and each line is printed with
+//! its reply.
+#![tactic(auto)]
+
+mod calls;
+mod player;
+mod stop;
+
+use player::Player;
+use std::io;
+use std::io::Write;
+use stop::Stop;
+
+fn main(rt: HostRuntime) -> Result<(), Stop> {
+    let mut player = Player::new(rt.alloc())?;
+    for line in rt.lines(rt.alloc()) {
+        let line = line?;
+        let told = player.play(line.as_str())?;
+        io::writer(&rt).write_all(&told)?;
+    }
+    Ok(())
+}
