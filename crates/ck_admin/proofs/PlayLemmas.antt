@@ -68,9 +68,9 @@ call_here before after line numbered =
     let parts = numbers_parts before after line in
     let within : length numbers < length (numbers_in all actor) = rw parts (longer numbers line.seq (numbers_in after actor)) in
     let at : Some line.seq ≡ Some (1 + length numbers) =
-        sym (get_here numbers line.seq (numbers_in after actor))
-        ∙ ap (λ xs. slice_get xs (length numbers)) (sym parts ∙ numbered actor)
-        ∙ range_here 1 (length (numbers_in all actor)) (length numbers) within in
+    sym (get_here numbers line.seq (numbers_in after actor))
+    ∙ ap (λ xs. slice_get xs (length numbers)) (sym parts ∙ numbered actor)
+    ∙ range_here 1 (length (numbers_in all actor)) (length numbers) within in
     let seq : line.seq ≡ suc (length numbers) = omega (arith, some_same line.seq (1 + length numbers) at) in
     let many : length numbers ≡ length (calls_of (calls_in before) actor) = sym (calls_as_many before actor) in
     ap (call_at (calls_in all) actor) (seq ∙ ap suc many)
@@ -120,8 +120,8 @@ pub answers : (w next : World) (call : Call) (entry : Entry) →
     ((texts : Texts) → step texts w entry.actor entry.at call ≡ record { reply = entry.reply; given = entry.given; next = next }) → Answers w next call entry
 answers w next call entry is =
     let same = λ (texts : Texts). let same_reply : entry.reply ≡ (step texts w entry.actor entry.at call).reply = sym (ap (λ (o : Outcome). o.reply) (is texts)) in
-        let same_given : entry.given ≡ (step texts w entry.actor entry.at call).given = sym (ap (λ (o : Outcome). o.given) (is texts)) in
-        let both : IsStepOf (step texts w entry.actor entry.at call) entry = record { reply = same_reply; given = same_given } in both in
+    let same_given : entry.given ≡ (step texts w entry.actor entry.at call).given = sym (ap (λ (o : Outcome). o.given) (is texts)) in
+    let both : IsStepOf (step texts w entry.actor entry.at call) entry = record { reply = same_reply; given = same_given } in both in
     record {
       legal = λ texts. IsStepOf-legal texts w call entry (same texts);
       leads = λ texts. world_after-step texts w call entry (same texts) ∙ ap (λ (o : Outcome). o.next) (is texts);
@@ -157,9 +157,9 @@ module _ (texts : Texts) (calls : CallsBy) (w next : World) (count : ℕ) (call 
   unfolding here
   then_past =
       let world : option_map_or (λ call. world_after texts w call entry) (calls entry.actor entry.seq) w ≡ next =
-          ap (λ o. option_map_or (λ call. world_after texts w call entry) o w) is ∙ answers.leads texts in
+      ap (λ o. option_map_or (λ call. world_after texts w call entry) o w) is ∙ answers.leads texts in
       let broken : (if is_write_fault entry.reply then Some count else None) ≡ None =
-          ap (λ b. if b then Some count else None) (no_write_fault (reply_number entry.reply) answers.no_fault) in
+      ap (λ b. if b then Some count else None) (no_write_fault (reply_number entry.reply) answers.no_fault) in
       λ i. record { world = world i; length = count + 1; broken = broken i }
 
 parts_at : (lines : List Line) (at : ℕ) (line : Line) → at < length lines → line ≡ get_or lines at line → lines ≡ take at lines ++ line ∷ drop (suc at) lines
@@ -178,21 +178,21 @@ goes_on lines clock at w next history line entry numbered within is so_far answe
     let before = take at lines in
     let after = drop (suc at) lines in
     let called : calls entry.actor entry.seq ≡ Some line.call =
-        (λ i. call_at (calls_in (parts i)) (actor i) (seq i)) ∙ call_here before after line (subst IsNumbered parts numbered) in
+    (λ i. call_at (calls_in (parts i)) (actor i) (seq i)) ∙ call_here before after line (subst IsNumbered parts numbered) in
     let many : length history + 1 ≡ length (history ++ entry ∷ []) = simp length-append (omega arith) in
     record {
       past = λ texts.
-        past_of-append texts calls (begun opening) history (entry ∷ [])
-        ∙ ap (λ past. past_after texts calls past entry) (so_far.past texts)
-        ∙ then_past texts calls w next (length history) line.call entry answers called
-        ∙ ap (λ count. record { world = next; length = count; broken = None }) many;
+          past_of-append texts calls (begun opening) history (entry ∷ [])
+          ∙ ap (λ past. past_after texts calls past entry) (so_far.past texts)
+          ∙ then_past texts calls w next (length history) line.call entry answers called
+          ∙ ap (λ count. record { world = next; length = count; broken = None }) many;
       legal = λ texts. IsLegalFrom-append texts calls (begun opening) history (entry ∷ []) (so_far.legal texts)
-        (subst (λ past. IsLegalFrom texts calls past (entry ∷ [])) (sym (so_far.past texts)) (legal_here texts calls w next (length history) line.call entry answers called, tt));
+          (subst (λ past. IsLegalFrom texts calls past (entry ∷ [])) (sym (so_far.past texts)) (legal_here texts calls w next (length history) line.call entry answers called, tt));
       places =
-        map-append place_of_entry history (entry ∷ [])
-        ∙ (λ i. so_far.places i ++ (actor i, seq i) ∷ [])
-        ∙ sym (map-append place_of_line before (line ∷ []))
-        ∙ ap (list_map place_of_line) (sym (taken_more lines at line within is));
+          map-append place_of_entry history (entry ∷ [])
+          ∙ (λ i. so_far.places i ++ (actor i, seq i) ∷ [])
+          ∙ sym (map-append place_of_line before (line ∷ []))
+          ∙ ap (list_map place_of_line) (sym (taken_more lines at line within is));
       moments = λ told. all_more (λ entry. entry.at ≡ clock.moment) history entry (so_far.moments told) (moment told);
       no_faults = all_more (λ entry. is_device_fault entry.reply ≡ false) history entry so_far.no_faults answers.no_fault;
     }
@@ -203,8 +203,8 @@ goes_on lines clock at w next history line entry numbered within is so_far answe
 -- all lines were played
 pub whole : (lines : List Line) (clock : ClockMeaning) (w : World) (history : List Entry) → IsNumbered lines → (at : ℕ) → length lines ≤ at → IsSoFar lines clock at w history → IsPlay (calls_in lines) clock history
 whole lines clock w history numbered at all so_far = record {
-    legal = so_far.legal;
-    of_script = of_lines lines history numbered (so_far.places ∙ ap (list_map place_of_line) (take_all at lines all));
-    moments = so_far.moments;
-    no_faults = so_far.no_faults;
-  }
+  legal = so_far.legal;
+  of_script = of_lines lines history numbered (so_far.places ∙ ap (list_map place_of_line) (take_all at lines all));
+  moments = so_far.moments;
+  no_faults = so_far.no_faults;
+}

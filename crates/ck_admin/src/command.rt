@@ -30,7 +30,12 @@ fn is_play(words: &[String]) -> bool
 }
 
 // Reads a script, plays it, and prints its transcript.
-fn play_script<S: Source, K: Sink, C: Clock>(alloc: Global, source: &mut S, out: &mut K, clock: &mut C) -> Status
+fn play_script<S: Source, K: Sink, C: Clock>(
+    alloc: Global,
+    source: &mut S,
+    out: &mut K,
+    clock: &mut C,
+) -> Status
     ensures ends { EndsPlay (S.means source.old) (S.means source.new) (C.means clock.old) (K.means out.old) (K.means out.new) result }
     ensures source_tells { (S.means source.new).tells ≡ (S.means source.old).tells }
     ensures out_tells { (K.means out.new).tells ≡ (K.means out.old).tells }
@@ -49,7 +54,13 @@ fn play_script<S: Source, K: Sink, C: Clock>(alloc: Global, source: &mut S, out:
     }
 }
 
-fn run_words<S: Source, K: Sink, C: Clock>(alloc: Global, words: &[String], source: &mut S, out: &mut K, clock: &mut C) -> Status
+fn run_words<S: Source, K: Sink, C: Clock>(
+    alloc: Global,
+    words: &[String],
+    source: &mut S,
+    out: &mut K,
+    clock: &mut C,
+) -> Status
     ensures usage { is_usage result ≡ not (is_play_word (list_map string_bytes words.now)) }
     ensures untouched { OnTrue (is_usage result) (IsUntouched (S.means source.old) (S.means source.new) (K.means out.old) (K.means out.new)) }
     ensures ends { OnFalse (is_usage result) (EndsPlay (S.means source.old) (S.means source.new) (C.means clock.old) (K.means out.old) (K.means out.new) result) }

@@ -12,7 +12,12 @@ use ck_script::Script;
 use std::alloc::Global;
 
 /// Writes the transcript of a history.
-pub fn print<K: Sink>(alloc: Global, history: &[Entry], script: &Script, out: &mut K) -> Result<(), Status>
+pub fn print<K: Sink>(
+    alloc: Global,
+    history: &[Entry],
+    script: &Script,
+    out: &mut K,
+) -> Result<(), Status>
     ensures whole { OnOk result (IsTrue (K.means out.old).tells → (K.means out.new).holds ≡ (K.means out.old).holds ++ transcript_text (call_at (calls_in script.now.calls)) history.now) }
     ensures fault { IfErr result (λ status. IsPrintFault (K.means out.old) (K.means out.new) (transcript_text (call_at (calls_in script.now.calls)) history.now) status) }
     ensures tells { (K.means out.new).tells ≡ (K.means out.old).tells }

@@ -38,17 +38,17 @@ pub len-differences : (a b : Cells) → map.len (differences a b) ≡ map.len (m
 len-differences a b =
     let d = differences a b in
     let new : map.len (map.retain_keys d (map.contains_key b)) ≡ map.len (map.retain_keys b (is_new_in a b)) =
-        len_same_keys key_cmp_total key_cmp_exact (map.retain_keys d (map.contains_key b)) (map.retain_keys b (is_new_in a b)) (λ q.
-            contains_key-retain_keys key_cmp_total key_cmp_exact d (map.contains_key b) q
-            ∙ ap (λ t. map.contains_key b q && t) (contains_key-differences a b q)
-            ∙ there (map.get a q) (map.get b q)
-            ∙ sym (contains_key-retain_keys key_cmp_total key_cmp_exact b (is_new_in a b) q)) in
+    len_same_keys key_cmp_total key_cmp_exact (map.retain_keys d (map.contains_key b)) (map.retain_keys b (is_new_in a b)) (λ q.
+    contains_key-retain_keys key_cmp_total key_cmp_exact d (map.contains_key b) q
+    ∙ ap (λ t. map.contains_key b q && t) (contains_key-differences a b q)
+    ∙ there (map.get a q) (map.get b q)
+    ∙ sym (contains_key-retain_keys key_cmp_total key_cmp_exact b (is_new_in a b) q)) in
     let lacks : map.len (map.retain_keys d (is_gone_in b)) ≡ map.len (map.retain_keys a (is_gone_in b)) =
-        len_same_keys key_cmp_total key_cmp_exact (map.retain_keys d (is_gone_in b)) (map.retain_keys a (is_gone_in b)) (λ q.
-            contains_key-retain_keys key_cmp_total key_cmp_exact d (is_gone_in b) q
-            ∙ ap (λ t. is_gone_in b q && t) (contains_key-differences a b q)
-            ∙ gone (map.get a q) (map.get b q)
-            ∙ sym (contains_key-retain_keys key_cmp_total key_cmp_exact a (is_gone_in b) q)) in
+    len_same_keys key_cmp_total key_cmp_exact (map.retain_keys d (is_gone_in b)) (map.retain_keys a (is_gone_in b)) (λ q.
+    contains_key-retain_keys key_cmp_total key_cmp_exact d (is_gone_in b) q
+    ∙ ap (λ t. is_gone_in b q && t) (contains_key-differences a b q)
+    ∙ gone (map.get a q) (map.get b q)
+    ∙ sym (contains_key-retain_keys key_cmp_total key_cmp_exact a (is_gone_in b) q)) in
     omega (arith, len_parts key_cmp_total key_cmp_exact d (map.contains_key b), new, lacks)
 
 pub len-differences-le : (a b : Cells) → map.len (differences a b) ≤ map.len a + map.len b
@@ -77,7 +77,7 @@ len-differences_shown kind a b = len_same_keys key_cmp_total key_cmp_exact (diff
 pub len-shown_differences : (kind : Kind) (a : Cells) → map.len (differences (shown_by kind a) a) ≡ 0
 len-shown_differences kind a =
     len_same_keys key_cmp_total key_cmp_exact (differences (shown_by kind a) a) (map.empty {X = Cell}) (λ q.
-        contains_key-differences (shown_by kind a) a q ∙ shown_differs kind a q ∙ sym (ap is_some (map.get-empty key_cmp q)))
+    contains_key-differences (shown_by kind a) a q ∙ shown_differs kind a q ∙ sym (ap is_some (map.get-empty key_cmp q)))
     ∙ map.len-empty key_cmp Cell
 
 pub len-shown_by : (kind : Kind) (cells : Cells) → map.len (shown_by kind cells) ≡ map.len cells

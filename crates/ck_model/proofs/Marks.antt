@@ -33,8 +33,8 @@ edits_marked es new sorted is =
     record {
       sorted = in_order;
       means = map.same_map key_cmp_total key_cmp_exact (map.from_sorted new) (marked (map.from_sorted es)) (λ q.
-        map.get-from_sorted key_cmp new q (subst T (sym in_order) tt)
-        ∙ ap (find key_cmp q) is ∙ find-values mark_of q es
-        ∙ sym (get-marked (map.from_sorted es) q ∙ ap (option_map (mark_of q)) (map.get-from_sorted key_cmp es q start)));
+          map.get-from_sorted key_cmp new q (subst T (sym in_order) tt)
+          ∙ ap (find key_cmp q) is ∙ find-values mark_of q es
+          ∙ sym (get-marked (map.from_sorted es) q ∙ ap (option_map (mark_of q)) (map.get-from_sorted key_cmp es q start)));
       length = ap length is ∙ length-map es mark_entry ∙ sym (len-marked (map.from_sorted es) ∙ len_of key_cmp_total key_cmp_exact es sorted);
     }

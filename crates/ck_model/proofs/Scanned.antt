@@ -39,7 +39,7 @@ module _ {K X : Type 0} {R : K → K → Ordering} (total : IsTotalOrder R) (exa
       let gone : find R k (without k es) ≡ None = find-without k k es ∙ ap (λ o. cond (is_eq o) None (find R k es)) (tied_itself total k) in
       map.from_entries_push total exact (without k es) k v gone
       ∙ map.same_map total exact _ _ (λ q.
-          map.get-insert total (map.from_entries (without k es)) k v q
-          ∙ ap (cond (eq_by_cmp R q k) (Some v)) (map.get-from_entries total (without k es) q ∙ find-without k q es)
-          ∙ again (eq_by_cmp R q k) (Some v) (find R q es)
-          ∙ sym (map.get-insert total (map.from_entries es) k v q ∙ ap (cond (eq_by_cmp R q k) (Some v)) (map.get-from_entries total es q)))
+      map.get-insert total (map.from_entries (without k es)) k v q
+      ∙ ap (cond (eq_by_cmp R q k) (Some v)) (map.get-from_entries total (without k es) q ∙ find-without k q es)
+      ∙ again (eq_by_cmp R q k) (Some v) (find R q es)
+      ∙ sym (map.get-insert total (map.from_entries es) k v q ∙ ap (cond (eq_by_cmp R q k) (Some v)) (map.get-from_entries total es q)))

@@ -36,9 +36,9 @@ module _ {K X : Type 0} {R : K → K → Ordering} (total : IsTotalOrder R) (exa
       let kept = filter (λ (e : K × X). p e.0) (map.entries m) in
       let sorted : T (is_sorted R kept) = is_sorted-where_key R p (map.entries m) (entries_sorted m) in
       ap map.entries (map.same_map total exact (map.retain_keys m p) (map.from_sorted kept) (λ q.
-          map.get-retain_keys m p q (alike exact p q)
-          ∙ ap (λ o. cond (p q) o None) (map.get-entries m q)
-          ∙ sym (map.get-from_sorted R kept q sorted ∙ find-where_key R p q (alike exact p q) (map.entries m))))
+      map.get-retain_keys m p q (alike exact p q)
+      ∙ ap (λ o. cond (p q) o None) (map.get-entries m q)
+      ∙ sym (map.get-from_sorted R kept q sorted ∙ find-where_key R p q (alike exact p q) (map.entries m))))
       ∙ map.entries-from_sorted R kept sorted
 
   pub len-retain_keys : (m : map.FinMap R X) (p : K → Bool) → map.len (map.retain_keys m p) ≡ length (filter (λ e. p e.0) (map.entries m))
@@ -91,6 +91,6 @@ pub len_same_keys : {K X Y : Type 0} {R : K → K → Ordering} (total : IsTotal
 len_same_keys {R = R} total exact m n same =
     len-keys total exact m
     ∙ ap set.len (set.same_set total exact (set.from_list (map.keys m)) (set.from_list (map.keys n)) (λ q.
-        set.contains-from_list total (map.keys m) q ∙ sym (map.contains_key-keys m q) ∙ same q
-        ∙ map.contains_key-keys n q ∙ sym (set.contains-from_list total (map.keys n) q)))
+    set.contains-from_list total (map.keys m) q ∙ sym (map.contains_key-keys m q) ∙ same q
+    ∙ map.contains_key-keys n q ∙ sym (set.contains-from_list total (map.keys n) q)))
     ∙ sym (len-keys total exact n)

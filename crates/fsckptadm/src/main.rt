@@ -5,9 +5,8 @@ use ck_admin::top;
 use ck_disk::MemDisk;
 use ck_io::{FixedClock, StdSink, StdSource, write_all};
 use ck_report::Status;
-use std::env;
-use std::io;
 use std::process::ExitCode;
+use std::{env, io};
 
 const HELP: &[u8] = b"usage: fsckptadm COMMAND IMAGE
 
@@ -64,7 +63,15 @@ fn run_in_memory(rt: &HostRuntime, words: &[String], blocks: u32) -> u8 {
     let mut out = StdSink::new(io::writer(rt));
     let mut err = StdSink::new(io::writer(&errors));
     let mut clock = FixedClock { now: 100 };
-    let ended = top(alloc, words, &mut source, &mut out, &mut err, disk, &mut clock);
+    let ended = top(
+        alloc,
+        words,
+        &mut source,
+        &mut out,
+        &mut err,
+        disk,
+        &mut clock,
+    );
     exit_status(&ended.status)
 }
 

@@ -21,7 +21,7 @@ loop-line-preserved g c =
     let more : suc at ≡ at + 1 = omega arith in
     record {
       so_far = rw c.push_reserved.ensures.items (subst (λ at. IsSoFar lines clock at next (history ++ entry ∷ [])) more (
-        goes_on lines clock at (world_of c.loop-line.plain) next history line entry numbered within c.line-item.is c.loop-line.invariant.so_far
+          goes_on lines clock at (world_of c.loop-line.plain) next history line entry numbered within c.line-item.is c.loop-line.invariant.so_far
           c.answer-entry.ensures.legal c.answer-entry.ensures.actor c.answer-entry.ensures.number (λ told. c.answer-entry.ensures.moment ∙ moment told)));
       clock = c.now.ensures.unchanged ∙ c.loop-line.invariant.clock;
       count = omega (arith, c.push_reserved.ensures.len, c.loop-line.invariant.count);

@@ -11,5 +11,5 @@ returns-in-Err-TooLong-clause-read g c = λ told.
     let one_more = rw c.in-Err-TooLong.field-0-is at c.in-Err-TooLong.ensures.one_more in
     let parts = carried told in
     let front : take (16777216 + 1) (g.S.Source.means c.args.source.now).left ≡ bytes =
-        ap (λ n. take n (g.S.Source.means c.args.source.now).left) (sym one_more) ∙ ap (take (length bytes)) parts ∙ take-append_seam bytes _ in
+    ap (λ n. take n (g.S.Source.means c.args.source.now).left) (sym one_more) ∙ ap (take (length bytes)) parts ∙ take-append_seam bytes _ in
     ap read_script (sym front) ∙ read_script-take (g.S.Source.means c.args.source.now).left
