@@ -6,6 +6,8 @@ mod command;
 mod playing;
 mod print;
 mod read;
+#[cfg(test)]
+mod tests;
 
 pub use command::{Ended, top};
 pub use playing::play;
