@@ -1,7 +1,7 @@
 use ck_model::{Call, NameBytes, NoMemory, Octets, Path};
 use std::alloc::Global;
 
-fn number(word: &str) -> Option<u64> {
+pub fn number(word: &str) -> Option<u64> {
     word.parse::<u64>().ok()
 }
 

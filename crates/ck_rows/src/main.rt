@@ -1,5 +1,6 @@
 //! Plays worked rows on the plain program. Standard input has a row's calls, a line each, and each line is printed with
-//! its reply.
+//! its reply. A line `row NAME BLOCKS RECORDS ID` begins a row on an empty world whose next checkpoint has that id, and
+//! `at MOMENT` sets the moment of the calls that follow.
 #![tactic(auto)]
 
 mod calls;

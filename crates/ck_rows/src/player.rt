@@ -1,11 +1,11 @@
-use crate::calls::{call_of, length};
+use crate::calls::{call_of, length, number};
 use crate::stop::Stop;
 use ck_model::Limits;
 use ck_plain::{Answer, Plain, is_plain_call};
 use ck_report::put_reply;
 use std::alloc::{AllocError, Global};
 
-/// The moment of every call.
+/// The moment of every call, until a line sets another.
 const MOMENT: u64 = 100;
 
 /// How many checkpoints may stand.
@@ -14,10 +14,11 @@ const CHECKPOINTS: u32 = 64;
 /// More records than a volume has.
 const TOO_MANY: u32 = 1 << 31;
 
-/// The world of the row that is played.
+/// The world of the row that is played, and the moment of its next call.
 #[derive(Drop)]
 pub struct Player {
     plain: Plain,
+    moment: u64,
     alloc: Global,
 }
 
@@ -60,13 +61,17 @@ fn put_answer(told: &mut Vec<u8>, answer: &Answer) -> Result<(), Stop> {
 impl Player {
     pub fn new(alloc: Global) -> Result<Player, Stop> {
         let plain = world_of(alloc, "64", "256", "1")?;
-        Ok(Player { plain, alloc })
+        Ok(Player {
+            plain,
+            moment: MOMENT,
+            alloc,
+        })
     }
 
     fn call(&mut self, actor: &str, words: &[&str]) -> Result<Answer, Stop> {
         match (length(actor), call_of(self.alloc, words)?) {
             (Some(actor), Some(call)) if is_plain_call(&call) => {
-                Ok(self.plain.step(actor, MOMENT, &call)?)
+                Ok(self.plain.step(actor, self.moment, &call)?)
             }
             _ => Err(Stop::BadLine),
         }
@@ -80,6 +85,10 @@ impl Player {
             [] => {}
             ["row", _, blocks, records, id] => {
                 self.plain = world_of(self.alloc, blocks, records, id)?;
+                self.moment = MOMENT;
+            }
+            ["at", moment] => {
+                self.moment = number(moment).ok_or(Stop::BadLine)?;
             }
             [actor, call @ ..] => {
                 let answer = self.call(actor, call)?;
