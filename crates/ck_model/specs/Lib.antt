@@ -3,6 +3,7 @@ pub mod Path
 pub mod Key
 pub mod Ordered
 pub mod Refusals
+pub mod Held
 pub mod Cells
 pub mod Walk
 pub mod Reading

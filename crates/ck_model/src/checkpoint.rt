@@ -29,6 +29,17 @@ pub struct Counters {
     pub number: u32,
 }
 
+/// A checkpoint's record in a table. One that is gone left the list, and its entries are still being moved.
+#[derive(Clone, Copy, Debug, PartialEq, Eq)]
+pub struct Fileset {
+    pub name: NameBytes,
+    pub kind: Kind,
+    pub removable: bool,
+    pub gone: bool,
+    /// When it was created, in seconds since 1970-01-01T00:00:00Z.
+    pub ctime: u64,
+}
+
 /// How a listing shows a checkpoint. A nodata one is delayed while an older one keeps data.
 #[derive(Clone, Copy, Debug, PartialEq, Eq)]
 pub enum State {
