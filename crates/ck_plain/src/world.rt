@@ -1,8 +1,8 @@
 ghost use Rattle.std.specs.Prelude.{◌≤◌, ◌<◌, ◌^◌, length};
 ghost use Rattle.std.specs.FinMap as map;
 
-use crate::{PlainMap, PlainMounts};
-use ck_model::{Counters, Kind, Limits, NameBytes};
+use crate::PlainMap;
+use ck_model::{Counters, Kind, Limits, Mounts, NameBytes};
 use std::alloc::Global;
 
 /// A checkpoint with a map of its own.
@@ -27,7 +27,7 @@ pub struct Plain {
     pub primary: PlainMap,
     pub checkpoints: Vec<PlainCheckpoint>,
     pub next: Counters,
-    pub mounts: PlainMounts,
+    pub mounts: Mounts,
     pub alloc: Global,
     pub ghost few_records: { limits.records < 2 ^ 31 },
     pub ghost few_live: { limits.checkpoints < 2 ^ 31 },

@@ -2,7 +2,7 @@ use Rattle.std.proofs.Common.{ℕ, ap, ◌∙◌}
 use Rattle.std.specs.FinMap as map
 use Rattle.ck_model.proofs.Scanned.{remove_scanned}
 use Rattle.ck_model.proofs.MountOrder.{mount_cmp_total, mount_cmp_exact}
-use Rattle.ck_plain.proofs.mounts.PlainMounts.remove.Goals as goal
+use Rattle.ck_model.proofs.mounts.Mounts.remove.Goals as goal
 
 pub returns : goal.returns
 returns c =

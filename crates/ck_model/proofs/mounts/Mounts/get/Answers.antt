@@ -2,7 +2,7 @@ use Rattle.std.proofs.Common.{ap, sym, ◌∙◌}
 use Rattle.std.specs.FinMap.{get, find, get-from_entries}
 use Rattle.ck_model.specs.World.{mount_cmp}
 use Rattle.ck_model.proofs.MountOrder.{mount_cmp_total}
-use Rattle.ck_plain.proofs.mounts.PlainMounts.get.Goals as goal
+use Rattle.ck_model.proofs.mounts.Mounts.get.Goals as goal
 
 pub loop-entry-init : goal.loop-entry-init
 loop-entry-init c =

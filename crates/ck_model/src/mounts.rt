@@ -3,17 +3,17 @@ ghost use Rattle.std.specs.Ordering.{eq_by_cmp};
 ghost use Rattle.std.specs.FinMap as map;
 ghost use Rattle.ck_model.specs.World.{mount_cmp};
 
-use ck_model::NoMemory;
+use crate::NoMemory;
 use std::alloc::Global;
 use std::marker::Model;
 
 /// Which checkpoint, by its id, an actor's letter stands for.
 #[derive(Drop)]
-pub struct PlainMounts {
+pub struct Mounts {
     mounts: Vec<((u32, u8), u32)>,
 }
 
-impl Model for PlainMounts {
+impl Model for Mounts {
     ghost use Rattle.std.specs.FinMap as map;
     ghost use Rattle.std.specs.Coded.{coded_ℕ, coded×};
     ghost use Rattle.ck_model.specs.World.{Mounts};
@@ -22,7 +22,7 @@ impl Model for PlainMounts {
 
     ghost coded = { map.code (coded× coded_ℕ coded_ℕ) coded_ℕ };
 
-    ghost view = { λ plain. map.from_entries plain.mounts.items };
+    ghost view = { λ list. map.from_entries list.mounts.items };
 }
 
 fn is_mount(a: &(u32, u8), b: &(u32, u8)) -> bool
@@ -47,11 +47,11 @@ fn put_mount(mounts: &mut Vec<((u32, u8), u32)>, mount: (u32, u8), id: u32)
     mounts.push_reserved((mount, id));
 }
 
-impl PlainMounts {
-    pub fn new(alloc: Global) -> PlainMounts
+impl Mounts {
+    pub fn new(alloc: Global) -> Mounts
         ensures { result ≡ map.empty }
     {
-        PlainMounts {
+        Mounts {
             mounts: Vec::new(alloc),
         }
     }
