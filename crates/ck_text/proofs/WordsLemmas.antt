@@ -1,9 +1,11 @@
 -- The words of a line, one after another.
-use Rattle.std.proofs.Common.{◌≡◌, ℕ, suc, ◌+◌, ◌-◌, ◌<◌, ◌≤◌, Bool, true, false, cond, not, List, [], ◌∷◌, ◌++◌, length, take, drop, filter, map, if◌then◌else◌, nat_lt, length-take-le, length-drop, append_assoc, refl, sym, ap, ◌∙◌, arith}
+use Rattle.std.proofs.Common.{◌≡◌, ℕ, suc, ◌+◌, ◌<◌, ◌≤◌, Bool, true, false, cond, not, List, [], ◌∷◌, ◌++◌, length, take, drop, filter, map, if◌then◌else◌, nat_lt, length-take-le, length-drop, append_assoc, refl, sym, ap, subst, ◌∙◌, arith}
 use Rattle.std.specs.Prelude.{slice_range}
-use Rattle.std.proofs.lemmas.List.{map-append}
+use Rattle.std.proofs.lemmas.List.{map-append, append-nil}
+use Rattle.std.proofs.lemmas.List.Elements.{All-push, All-weaker}
+use Rattle.std.proofs.lemmas.List.Quantifiers.{all_pairs_push}
 use Rattle.std.proofs.lemmas.Bool.Decides.{nat_tests}
-use Rattle.std.specs.List.{slice_split, position_or_len, onto_first, AllByRecursion}
+use Rattle.std.specs.List.{slice_split, position_or_len, onto_first, All, AllByRecursion, AllPairs}
 use Rattle.std.proofs.lemmas.List.Splits.{slice_split-cons_yes, slice_split-cons_no}
 use lib.Seq.{drop-drop}
 use Rattle.ck_text.specs.Words.{is_blank, words_of, word_between}
@@ -105,3 +107,26 @@ next_within line [] at end within h =
       | false ↦ λ e. tt
     ] refl
 next_within line (place ∷ places) at end within h = (h.0, next_within line places at end within h.1)
+
+-- each place ends before this one
+abbrev pub AreBefore : ℕ → List (ℕ × ℕ) → Type 0
+AreBefore at places = All (λ word. word.1 < at) places
+
+-- each place ends before the later ones begin
+abbrev pub AreApart : List (ℕ × ℕ) → Type 0
+AreApart places = AllPairs (λ earlier later. earlier.1 < later.0) places
+
+pub next_before : (places : List (ℕ × ℕ)) (at end : ℕ) → at ≤ end → AreBefore at places → AreBefore (end + 1) (places ++ word_between at end)
+next_before places at end later before =
+    let below : AreBefore (end + 1) places = All-weaker (λ (word : ℕ × ℕ). word.1 < at) (λ (word : ℕ × ℕ). word.1 < end + 1) (λ word h. omega (arith, later, h)) places before in
+    elim (nat_lt at end) as (λ b. AreBefore (end + 1) (places ++ cond b ((at, end) ∷ []) [])) [
+      | true ↦ All-push (λ (word : ℕ × ℕ). word.1 < end + 1) places (at, end) below (omega arith)
+      | false ↦ subst (AreBefore (end + 1)) (sym (append-nil places)) below
+    ]
+
+pub next_apart : (places : List (ℕ × ℕ)) (at end : ℕ) → AreBefore at places → AreApart places → AreApart (places ++ word_between at end)
+next_apart places at end before apart =
+    elim (nat_lt at end) as (λ b. AreApart (places ++ cond b ((at, end) ∷ []) [])) [
+      | true ↦ all_pairs_push (λ (earlier later : ℕ × ℕ). earlier.1 < later.0) places (at, end) apart before
+      | false ↦ subst AreApart (sym (append-nil places)) apart
+    ]

@@ -1,5 +1,5 @@
 -- Decimal numbers below 2^64.
-use Rattle.std.specs.Prelude.{ℕ, ◌+◌, ◌-◌, ◌*◌, ◌^◌, ◌&&◌, ◌||◌, Bool, not, List, [], ◌∷◌, length, Option, Some, None, nat_eq, nat_le, nat_lt, slice_index, if◌then◌else◌}
+use Rattle.std.specs.Prelude.{ℕ, ◌+◌, ◌-◌, ◌*◌, ◌^◌, ◌&&◌, ◌||◌, Bool, List, length, Option, Some, None, nat_eq, nat_le, nat_lt, slice_index, if◌then◌else◌}
 use Rattle.std.specs.Option.{option_and_then}
 use Rattle.std.specs.List.{fold}
 

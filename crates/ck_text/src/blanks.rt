@@ -1,4 +1,4 @@
-ghost use Rattle.std.specs.Prelude.{◌≡◌, ◌+◌, ◌++◌, ◌<◌, ◌≤◌, IfOk, OnOk, length, drop, map, slice_range};
+ghost use Rattle.std.specs.Prelude.{◌≡◌, ◌+◌, ◌++◌, ◌<◌, ◌≤◌, IfOk, OnOk, AllPairs, length, drop, map, slice_range};
 ghost use Rattle.std.specs.List.{position_or_len, AllByRecursion};
 ghost use Rattle.ck_text.specs.Words.{is_blank, word_between, words_of};
 
@@ -34,10 +34,13 @@ fn push_word(words: &mut Vec<(usize, usize)>, start: usize, end: usize) -> Resul
     Ok(())
 }
 
-/// The start and the end of each word of a line. Words are parted by spaces and tabs.
+/// The start and the end of each word of a line, in their order. Words are parted by spaces and tabs.
 pub fn words(alloc: Global, line: &[u8]) -> Result<Vec<(usize, usize)>, NoMemory>
-    ensures words { IfOk result (λ words. map (λ word. slice_range line.now word.0 word.1) words.items ≡ words_of line.now) }
-    ensures within { IfOk result (λ words. AllByRecursion (λ word. (word.0 < word.1) × (word.1 ≤ length line.now)) words.items) }
+    ensures words { IfOk result (λ words.
+        map (λ word. slice_range line.now word.0 word.1) words.items ≡ words_of line.now) }
+    ensures within { IfOk result (λ words.
+        AllByRecursion (λ word. (word.0 < word.1) × (word.1 ≤ length line.now)) words.items) }
+    ensures apart { IfOk result (λ words. AllPairs (λ earlier later. earlier.1 < later.0) words.items) }
 {
     let mut words = Vec::new(alloc);
     let mut at = 0;

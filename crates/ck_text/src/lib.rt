@@ -6,5 +6,8 @@ mod hexadecimal;
 mod numbers;
 
 pub use blanks::words;
-pub use hexadecimal::put_hex;
+pub use hexadecimal::{hex_bytes, put_hex};
 pub use numbers::{decimal, put_decimal};
+
+#[cfg(test)]
+mod tests;

@@ -1,4 +1,4 @@
-use Rattle.std.proofs.Common.{ℕ, suc, ◌<◌, length, Some, drop, drop-cons, sym, ap, ◌∙◌, arith}
+use Rattle.std.proofs.Common.{suc, ◌<◌, length, Some, drop, drop-cons, sym, ap, ◌∙◌, arith}
 use Rattle.std.specs.List.{fold}
 use Rattle.ck_text.specs.Decimal.{next_value}
 use Rattle.ck_text.proofs.DecimalLemmas.{fold_none, either_none}
