@@ -6,12 +6,12 @@ use Rattle.std.specs.Option.{option_map_or, option_map, option_and_then}
 use Rattle.std.proofs.lemmas.Option.{option_and_then_some}
 use Rattle.std.proofs.lemmas.Bool.Decides.{nat_tests}
 use Rattle.ck_model.specs.declared.call.Call.{Call}
-use Rattle.ck_model.specs.declared.call.Call.TheVariants.{Make, Write, Create, Mount, Cread}
+use Rattle.ck_model.specs.declared.call.Call.TheVariants.{Make, Write, Read, Create, Mount, Cread}
 use Rattle.ck_text.specs.Decimal.{number_of}
 use Rattle.ck_text.specs.Words.{words_of}
 use Rattle.ck_script.specs.declared.line.Line.{Line}
-use Rattle.ck_script.specs.Grammar.{call_of, make_of, write_of, write_within, create_of, mount_of, cread_of, path_of, number_up_to, bytes_of, checkpoint_name, letter_of, place_limit, is_text}
-use Rattle.ck_script.specs.Reading.{read_lines, read_script, call_in, call_by_words, one_more, are_few, is_skipped, long_line}
+use Rattle.ck_script.specs.Grammar.{call_of, make_of, write_of, write_within, read_of, create_of, mount_of, cread_of, path_of, number_up_to, bytes_of, checkpoint_name, letter_of, place_limit, is_text}
+use Rattle.ck_script.specs.Reading.{read_lines, read_script, call_in, call_by_words, one_more, are_within_limits, is_skipped, long_line}
 use Rattle.ck_admin.specs.Built.{IsBuilt}
 
 -- every call that this may give is built
@@ -32,6 +32,10 @@ mapped : {A : Type 0} (make : A → Call) → ((x : A) → IsBuilt (make x)) →
 mapped make is None = nothing
 mapped make is (Some x) = one (make x) (is x)
 
+mapped_found : {A : Type 0} (make : A → Call) (o : Option A) → ((x : A) → o ≡ Some x → IsBuilt (make x)) → Builds (option_map make o)
+mapped_found make None is = nothing
+mapped_found make (Some x) is = one (make x) (is x refl)
+
 chained : {A : Type 0} (f : A → Option Call) (o : Option A) → ((x : A) → o ≡ Some x → Builds (f x)) → Builds (option_and_then f o)
 chained f o is call h = option_and_then_some f o call h (λ x found rest. is x found call rest)
 
@@ -45,6 +49,11 @@ up_to limit number word h =
       | false ↦ λ e h. cc
     ] refl
 
+-- a call that this test lets through is built, where what the test says makes it so
+tested : (test : Bool) (built : Call) → (test ≡ true → IsBuilt built) → Builds (cond test (Some built) None)
+tested true built is = one built (is refl)
+tested false built is = nothing
+
 make_builds : (words : List (List ℕ)) → Builds (make_of words)
 make_builds [] = nothing
 make_builds (path ∷ []) = mapped Make (λ path. tt) (path_of path)
@@ -56,14 +65,24 @@ write_builds (path ∷ []) = nothing
 write_builds (path ∷ at ∷ []) = nothing
 write_builds (path ∷ at ∷ bytes ∷ []) =
     chained _ (path_of path) (λ path _.
-    chained _ (number_up_to place_limit at) (λ number found.
+    chained _ (number_up_to place_limit at) (λ number _.
     chained (write_within path number) (bytes_of bytes) (λ bytes _.
-    either (nat_le (number + length bytes) place_limit) (Some (Write path number bytes)) None (one (Write path number bytes) (up_to place_limit number at found)) nothing)))
+    tested (nat_le (number + length bytes) place_limit) (Write path number bytes) (λ e. grind (arith, nat_tests, e)))))
 write_builds (path ∷ at ∷ bytes ∷ word ∷ words) = nothing
+
+read_builds : (words : List (List ℕ)) → Builds (read_of words)
+read_builds [] = nothing
+read_builds (path ∷ []) = nothing
+read_builds (path ∷ at ∷ []) = nothing
+read_builds (path ∷ at ∷ len ∷ []) =
+    chained _ (path_of path) (λ path _.
+    chained _ (number_up_to place_limit at) (λ number found.
+    mapped_found (Read path number) (number_up_to place_limit len) (λ count found_count. (up_to place_limit number at found, up_to place_limit count len found_count))))
+read_builds (path ∷ at ∷ len ∷ word ∷ words) = nothing
 
 create_builds : (words : List (List ℕ)) → Builds (create_of words)
 create_builds [] = nothing
-create_builds (name ∷ []) = mapped (λ name. Create name false false) (λ name. tt) (checkpoint_name name)
+create_builds (name ∷ []) = mapped (λ name. Create name false false) (λ name. (refl, refl)) (checkpoint_name name)
 create_builds (name ∷ word ∷ words) = nothing
 
 mount_builds : (words : List (List ℕ)) → Builds (mount_of words)
@@ -81,7 +100,7 @@ cread_builds (letter ∷ path ∷ at ∷ len ∷ []) =
     chained _ (letter_of letter) (λ letter _.
     chained _ (path_of path) (λ path _.
     chained _ (number_up_to place_limit at) (λ number found.
-    mapped (Cread letter path number) (λ len. up_to place_limit number at found) (number_up_to place_limit len))))
+    mapped_found (Cread letter path number) (number_up_to place_limit len) (λ count found_count. (up_to place_limit number at found, up_to place_limit count len found_count)))))
 cread_builds (letter ∷ path ∷ at ∷ len ∷ word ∷ words) = nothing
 
 call_builds : (words : List (List ℕ)) → Builds (call_of words)
@@ -89,9 +108,10 @@ call_builds [] = nothing
 call_builds (verb ∷ words) =
     either (is_text verb (codes "make")) _ _ (make_builds words)
     (either (is_text verb (codes "write")) _ _ (write_builds words)
+    (either (is_text verb (codes "read")) _ _ (read_builds words)
     (either (is_text verb (codes "create")) _ _ (create_builds words)
     (either (is_text verb (codes "mount")) _ _ (mount_builds words)
-    (either (is_text verb (codes "cread")) _ _ (cread_builds words) nothing))))
+    (either (is_text verb (codes "cread")) _ _ (cread_builds words) nothing)))))
 
 words_build : (words : List (List ℕ)) → Builds (call_by_words words)
 words_build [] = nothing
@@ -107,7 +127,7 @@ all_more (first ∷ calls) call all is = (all.0, all_more calls call all.1 is)
 more_built : (calls more : List Call) (o : Option Call) → AllBuilt calls → Builds o → one_more calls o ≡ Some more → AllBuilt more
 more_built calls more None all builds h = cc
 more_built calls more (Some call) all builds h =
-    elim (are_few (calls ++ call ∷ [])) as (λ b. cond b (Some (calls ++ call ∷ [])) None ≡ Some more → AllBuilt more) [
+    elim (are_within_limits (calls ++ call ∷ [])) as (λ b. cond b (Some (calls ++ call ∷ [])) None ≡ Some more → AllBuilt more) [
       | true ↦ λ h. let same : calls ++ call ∷ [] ≡ more = cc in subst AllBuilt same (all_more calls call all (builds call refl))
       | false ↦ λ h. cc
     ] h

@@ -1,13 +1,14 @@
 -- The calls that scripts have today.
-use Rattle.std.specs.Prelude.{◌≤◌, ⊤}
+use Rattle.std.specs.Prelude.{◌≡◌, ◌+◌, ◌≤◌, ⊤, false, length}
 use Rattle.ck_model.specs.declared.call.Call.{Call}
-use Rattle.ck_model.specs.declared.call.Call.TheVariants.{Make, Write, Create, Mount, Cread}
+use Rattle.ck_model.specs.declared.call.Call.TheVariants.{Make, Write, Read, Create, Mount, Cread}
 
--- make, write, create, mount and cread, with places within a block
+-- make, write, read, create without flags, mount and cread, within the first block of a file
 abbrev pub IsBuilt : Call → Type 0
 IsBuilt (Make path) = ⊤
-IsBuilt (Write path at bytes) = at ≤ 4096
-IsBuilt (Create name nodata removable) = ⊤
+IsBuilt (Write path at bytes) = at + length bytes ≤ 4096
+IsBuilt (Read path at len) = (at ≤ 4096) × (len ≤ 4096)
+IsBuilt (Create name nodata removable) = (nodata ≡ false) × (removable ≡ false)
 IsBuilt (Mount letter name) = ⊤
-IsBuilt (Cread letter path at len) = at ≤ 4096
+IsBuilt (Cread letter path at len) = (at ≤ 4096) × (len ≤ 4096)
 IsBuilt _ = ⊥

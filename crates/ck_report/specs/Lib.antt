@@ -1,3 +1,4 @@
 pub mod Words
 pub mod Transcript
 pub mod Status
+pub mod Places

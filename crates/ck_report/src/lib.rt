@@ -1,6 +1,7 @@
 //! The texts of the programs: calls, replies, transcripts, and the lines on standard error.
 #![tactic(auto)]
 
+mod finding;
 mod put;
 mod standard_error;
 mod status;

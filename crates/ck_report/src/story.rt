@@ -1,30 +1,17 @@
 ghost use Rattle.std.specs.Prelude.{◌≡◌, ◌++◌, OnOk, IfOk};
-ghost use Rattle.std.specs.Option.{option_copied};
 ghost use Rattle.ck_model.specs.History.{call_at};
 ghost use Rattle.ck_script.specs.Numbered.{calls_in, IsNumbered};
 ghost use Rattle.std.specs.Fmt.{decimal};
 ghost use Rattle.ck_report.specs.Words.{number_words};
 ghost use Rattle.ck_report.specs.Transcript.{entry_head, answer_text, entry_text, transcript_text};
 
+use crate::finding::{Places, find_call};
 use crate::put::{put, put_number};
 use crate::words::{put_call, put_reply};
 use ck_model::{Call, Entry, NoMemory, Reply};
 use ck_script::{Line, Script};
 use ck_text::put_decimal;
 use std::alloc::Global;
-
-// The line with this actor and number. It looks at each line in turn.
-fn find_call(lines: &[Line], actor: u32, seq: u32) -> Option<&Call>
-    requires { IsNumbered lines.now }
-    ensures { option_copied result ≡ call_at (calls_in lines.now) actor seq }
-{
-    for line in lines {
-        if line.actor == actor && line.seq == seq {
-            return Some(&line.call);
-        }
-    }
-    None
-}
 
 fn put_small(out: &mut Vec<u8>, number: u32) -> Result<(), NoMemory>
     ensures { OnOk result (out.new.items ≡ out.old.items ++ decimal number) }
@@ -60,11 +47,16 @@ fn put_answer(out: &mut Vec<u8>, call: &Call, reply: &Reply) -> Result<(), NoMem
     Ok(())
 }
 
-fn put_entry(out: &mut Vec<u8>, entry: &Entry, lines: &[Line]) -> Result<(), NoMemory>
+fn put_entry(
+    out: &mut Vec<u8>,
+    entry: &Entry,
+    lines: &[Line],
+    places: &mut Places,
+) -> Result<(), NoMemory>
     requires { IsNumbered lines.now }
     ensures { OnOk result (out.new.items ≡ out.old.items ++ entry_text (call_at (calls_in lines.now)) entry.now) }
 {
-    match find_call(lines, entry.actor, entry.seq) {
+    match find_call(lines, places, entry.actor, entry.seq) {
         Some(call) => {
             put_head(out, entry)?;
             put_answer(out, call, &entry.reply)
@@ -78,9 +70,10 @@ pub fn transcript(alloc: Global, history: &[Entry], script: &Script) -> Result<V
     ensures { IfOk result (λ text. text.items ≡ transcript_text (call_at (calls_in script.now.calls)) history.now) }
 {
     let lines = script.calls.items();
+    let mut places = Places::new();
     let mut text = Vec::new(alloc);
     for entry in history {
-        put_entry(&mut text, entry, lines)?;
+        put_entry(&mut text, entry, lines, &mut places)?;
     }
     Ok(text)
 }

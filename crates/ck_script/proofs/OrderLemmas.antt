@@ -1,13 +1,14 @@
 -- The numbers of the calls of a script.
-use Rattle.std.proofs.Common.{◌≡◌, ℕ, zero, suc, ◌+◌, true, false, cond, List, [], ◌∷◌, ◌++◌, ◌<◌, length, get_or, take, count_by, map as list_map, nat_eq, Some, None, length-append, zero-add, refl, sym, ap, ◌∙◌, arith}
-use Rattle.std.specs.List.{AllByRecursion, range_with_len, cons_option}
+use Rattle.std.proofs.Common.{◌≡◌, ℕ, zero, suc, ◌+◌, true, false, cond, List, [], ◌∷◌, ◌++◌, ◌≤◌, IsTrue, ◌&&◌, nat_le, length, map as list_map, nat_eq, Some, None, length-append, refl, sym, ap, ◌∙◌, arith}
+use Rattle.std.specs.List.{AllByRecursion, range_with_len, cons_option, sum_by}
 use Rattle.std.proofs.lemmas.List.{map-append, length-map}
-use Rattle.std.proofs.lemmas.List.{take_more}
-use Rattle.std.proofs.lemmas.List.Sums.{sum_by-append}
+use Rattle.std.proofs.lemmas.List.Sums.{sum_by_push}
+use Rattle.std.proofs.lemmas.Bool.Decides.{nat_tests}
+use Rattle.ck_model.specs.declared.call.Call.{Call}
 use Rattle.ck_script.specs.declared.line.Line.{Line}
 use Rattle.ck_script.specs.Numbered.{IsNumbered, numbers_in}
-use Rattle.ck_script.specs.Steps.{AreInOrder, calls_of}
-use Rattle.ck_script.specs.Reading.{is_create}
+use Rattle.ck_script.specs.Reading.{are_within_limits, asked_by, length_limit, call_limit}
+use Rattle.ck_script.specs.Steps.{AreInOrder, IsTally, calls_of}
 
 range_with_len-suc : (from n : ℕ) → range_with_len from (suc n) ≡ range_with_len from n ++ (from + n) ∷ []
 range_with_len-suc from zero = ap (λ k. k ∷ []) (omega arith)
@@ -53,11 +54,21 @@ numbered_in_order lines order actor =
       | false ↦ λ e. let none = numbers_of_none lines actor order.actor e in none ∙ ap (λ numbers. range_with_len 1 (length numbers)) (sym none)
     ] refl
 
--- the number of calls that make a checkpoint, with one line more
-pub creates_more : (lines : List Line) (at : ℕ) (line : Line) → at < length lines → line ≡ get_or lines at line →
-    count_by is_create (calls_of (take (at + 1) lines)) ≡ count_by is_create (calls_of (take at lines)) + cond (is_create line.call) 1 0
-creates_more lines at line within is =
-    ap (λ front. count_by is_create (calls_of front)) (take_more lines at line within ∙ ap (λ line. take at lines ++ line ∷ []) (sym is))
-    ∙ ap (count_by is_create) (map-append (λ (line : Line). line.call) (take at lines) (line ∷ []))
-    ∙ sum_by-append (λ call. cond (is_create call) 1 0) (calls_of (take at lines)) (line.call ∷ [])
-    ∙ ap (λ n. count_by is_create (calls_of (take at lines)) + n) (zero-add (cond (is_create line.call) 1 0))
+asked_within : (calls : List Call) → IsTrue (are_within_limits calls) → sum_by asked_by calls ≤ length_limit
+asked_within calls within =
+    elim (nat_le (length calls) call_limit) as (λ b. IsTrue (b && nat_le (sum_by asked_by calls) length_limit) → sum_by asked_by calls ≤ length_limit) [
+      | true ↦ λ within. grind (arith, nat_tests, within)
+      | false ↦ λ within. cc
+    ] within
+
+-- one call more, with which no limit is passed
+pub tally_more : (lines : List Line) (line : Line) (asked : ℕ) → IsTally lines asked → line.actor ≡ 1 → line.seq ≡ length lines + 1 → IsTrue (are_within_limits (calls_of lines ++ line.call ∷ [])) →
+    IsTally (lines ++ line ∷ []) (asked + asked_by line.call)
+tally_more lines line asked tally one next within =
+    let calls : calls_of (lines ++ line ∷ []) ≡ calls_of lines ++ line.call ∷ [] = map-append (λ (line : Line). line.call) lines (line ∷ []) in
+    let sum : asked + asked_by line.call ≡ sum_by asked_by (calls_of lines ++ line.call ∷ []) = ap (λ n. n + asked_by line.call) tally.sum ∙ sym (sum_by_push asked_by (calls_of lines) line.call) in
+    record {
+      sum = sum ∙ ap (sum_by asked_by) (sym calls);
+      few = omega (arith, sum, asked_within (calls_of lines ++ line.call ∷ []) within);
+      order = order_more lines line tally.order one next;
+    }

@@ -4,7 +4,7 @@ use Rattle.std.specs.Option.{option_map, option_and_then}
 use Rattle.std.specs.List.{list_all}
 use Rattle.std.specs.Cmp.Lexicographic.{pointwise}
 use Rattle.ck_model.specs.declared.call.Call.{Call}
-use Rattle.ck_model.specs.declared.call.Call.TheVariants.{Make, Write, Create, Mount, Cread}
+use Rattle.ck_model.specs.declared.call.Call.TheVariants.{Make, Write, Read, Create, Mount, Cread}
 use Rattle.ck_text.specs.Decimal.{number_of}
 
 -- the word is this text
@@ -65,6 +65,12 @@ write_of (path ∷ at ∷ bytes ∷ []) =
     option_and_then (λ path. option_and_then (λ at. option_and_then (λ bytes. write_within path at bytes) (bytes_of bytes)) (number_up_to place_limit at)) (path_of path)
 write_of _ = None
 
+abbrev pub read_of : List (List ℕ) → Option Call
+read_of (path ∷ at ∷ len ∷ []) =
+    option_and_then (λ path. option_and_then (λ at. option_map (λ len. Read path at len)
+    (number_up_to place_limit len)) (number_up_to place_limit at)) (path_of path)
+read_of _ = None
+
 abbrev pub create_of : List (List ℕ) → Option Call
 create_of (name ∷ []) = option_map (λ name. Create name false false) (checkpoint_name name)
 create_of _ = None
@@ -85,6 +91,7 @@ call_of [] = None
 call_of (verb ∷ words) =
     if is_text verb (codes "make") then make_of words
     else if is_text verb (codes "write") then write_of words
+    else if is_text verb (codes "read") then read_of words
     else if is_text verb (codes "create") then create_of words
     else if is_text verb (codes "mount") then mount_of words
     else if is_text verb (codes "cread") then cread_of words

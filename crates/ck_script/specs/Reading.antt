@@ -1,15 +1,24 @@
 -- What the bytes of a script stand for: its calls, or the number of the first line that is refused.
-use Rattle.std.specs.Prelude.{ℕ, ◌+◌, ◌&&◌, ◌||◌, Bool, true, false, List, [], ◌∷◌, ◌++◌, length, Option, Some, None, Result, Ok, Err, codes, count_by, nat_eq, nat_le, nat_lt, take, if◌then◌else◌, slice_index}
+use Rattle.std.specs.Prelude.{ℕ, ◌+◌, ◌&&◌, ◌||◌, Bool, false, List, [], ◌∷◌, ◌++◌, length, Option, Some, None, Result, Ok, Err, codes, count_by, nat_eq, nat_le, nat_lt, take, if◌then◌else◌, slice_index}
+use Rattle.std.specs.List.{sum_by}
 use Rattle.std.specs.Option.{option_map_or}
 use Rattle.std.specs.Str.Lines.{lines}
 use Rattle.ck_model.specs.declared.call.Call.{Call}
-use Rattle.ck_model.specs.declared.call.Call.TheVariants.{Create}
+use Rattle.ck_model.specs.declared.call.Call.TheVariants.{Read, Cread}
 use Rattle.ck_text.specs.Words.{words_of}
 use Rattle.ck_script.specs.Grammar.{call_of, is_text}
 
 -- how many bytes a script has at the most
 abbrev pub script_limit : ℕ
 script_limit = 16777216
+
+-- how many calls it has at the most
+abbrev pub call_limit : ℕ
+call_limit = 65536
+
+-- how many bytes its reads ask for together at the most
+abbrev pub length_limit : ℕ
+length_limit = 268435456
 
 -- a line without words, or whose first byte is `#`
 abbrev pub is_skipped : List ℕ → Bool
@@ -23,18 +32,20 @@ call_by_words (actor ∷ words) = if is_text actor (codes "1") then call_of word
 abbrev pub call_in : List ℕ → Option Call
 call_in line = call_by_words (words_of line)
 
-abbrev pub is_create : Call → Bool
-is_create (Create name nodata removable) = true
-is_create _ = false
+-- how many bytes a call asks for
+abbrev pub asked_by : Call → ℕ
+asked_by (Read path at len) = len
+asked_by (Cread letter path at len) = len
+asked_by _ = 0
 
--- at most 32 calls, and at most one `create`
-abbrev pub are_few : List Call → Bool
-are_few calls = nat_le (length calls) 32 && nat_le (count_by is_create calls) 1
+-- no limit is passed: neither by their number nor by the bytes that they ask for together
+abbrev pub are_within_limits : List Call → Bool
+are_within_limits calls = nat_le (length calls) call_limit && nat_le (sum_by asked_by calls) length_limit
 
--- these calls and one more, unless with it there are too many
+-- these calls and one more, unless with it a limit is passed
 abbrev pub one_more : List Call → Option Call → Option (List Call)
 one_more calls None = None
-one_more calls (Some call) = if are_few (calls ++ call ∷ []) then Some (calls ++ call ∷ []) else None
+one_more calls (Some call) = if are_within_limits (calls ++ call ∷ []) then Some (calls ++ call ∷ []) else None
 
 -- the number of the line that has the byte behind the limit, if there is one
 abbrev pub long_line : List ℕ → Option ℕ

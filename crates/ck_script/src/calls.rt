@@ -1,5 +1,5 @@
 ghost use Rattle.std.specs.Prelude.{◌≡◌, [], ◌∷◌, Some, None, IfOk, map as list_map};
-ghost use Rattle.ck_script.specs.Grammar.{make_of, write_of, create_of, mount_of, cread_of, call_of as call_for};
+ghost use Rattle.ck_script.specs.Grammar.{make_of, write_of, read_of, create_of, mount_of, cread_of, call_of as call_for};
 ghost use Rattle.ck_script.specs.Reading.{call_by_words as call_from};
 
 use crate::parts::{bytes_of, checkpoint_name, is_text, letter_of, number_up_to, path_of};
@@ -34,6 +34,21 @@ fn write(alloc: Global, path: &[u8], at: &[u8], bytes: &[u8]) -> Result<Option<C
         return Ok(None);
     }
     Ok(Some(Call::Write(path, u64::from(at), bytes)))
+}
+
+fn read(alloc: Global, path: &[u8], at: &[u8], len: &[u8]) -> Result<Option<Call>, NoMemory>
+    ensures { IfOk result (λ call. call ≡ read_of (path.now ∷ at.now ∷ len.now ∷ [])) }
+{
+    let Some(path) = path_of(alloc, path)? else {
+        return Ok(None);
+    };
+    let Some(at) = number_up_to(PLACE_LIMIT, at) else {
+        return Ok(None);
+    };
+    let Some(len) = number_up_to(PLACE_LIMIT, len) else {
+        return Ok(None);
+    };
+    Ok(Some(Call::Read(path, u64::from(at), len)))
 }
 
 fn create(name: &[u8]) -> Option<Call>
@@ -95,6 +110,15 @@ fn write_by_words(alloc: Global, words: &[&[u8]]) -> Result<Option<Call>, NoMemo
     }
 }
 
+fn read_by_words(alloc: Global, words: &[&[u8]]) -> Result<Option<Call>, NoMemory>
+    ensures { IfOk result (λ call. call ≡ read_of (list_map (λ word. word.now) words.now)) }
+{
+    match words {
+        [path, at, len] => read(alloc, path, at, len),
+        _ => Ok(None),
+    }
+}
+
 fn create_by_words(words: &[&[u8]]) -> Option<Call>
     ensures { result ≡ create_of (list_map (λ word. word.now) words.now) }
 {
@@ -122,13 +146,15 @@ fn cread_by_words(alloc: Global, words: &[&[u8]]) -> Result<Option<Call>, NoMemo
     }
 }
 
-fn call_of(alloc: Global, verb: &[u8], words: &[&[u8]]) -> Result<Option<Call>, NoMemory>
+fn call_by_verb(alloc: Global, verb: &[u8], words: &[&[u8]]) -> Result<Option<Call>, NoMemory>
     ensures { IfOk result (λ call. call ≡ call_for (verb.now ∷ list_map (λ word. word.now) words.now)) }
 {
     if is_text(verb, b"make") {
         make_by_words(alloc, words)
     } else if is_text(verb, b"write") {
         write_by_words(alloc, words)
+    } else if is_text(verb, b"read") {
+        read_by_words(alloc, words)
     } else if is_text(verb, b"create") {
         Ok(create_by_words(words))
     } else if is_text(verb, b"mount") {
@@ -140,12 +166,21 @@ fn call_of(alloc: Global, verb: &[u8], words: &[&[u8]]) -> Result<Option<Call>, 
     }
 }
 
+fn call_of(alloc: Global, words: &[&[u8]]) -> Result<Option<Call>, NoMemory>
+    ensures { IfOk result (λ call. call ≡ call_for (list_map (λ word. word.now) words.now)) }
+{
+    match words {
+        [verb, rest @ ..] => call_by_verb(alloc, verb, rest),
+        [] => Ok(None),
+    }
+}
+
 /// The call of a line with these words. The only actor has the number 1.
 pub fn call_by_words(alloc: Global, words: &[&[u8]]) -> Result<Option<Call>, NoMemory>
     ensures { IfOk result (λ call. call ≡ call_from (list_map (λ word. word.now) words.now)) }
 {
     match words {
-        [actor, verb, rest @ ..] if is_text(actor, b"1") => call_of(alloc, verb, rest),
+        [actor, rest @ ..] if is_text(actor, b"1") => call_of(alloc, rest),
         _ => Ok(None),
     }
 }

@@ -7,6 +7,9 @@ mod line;
 mod parser;
 mod parts;
 mod script;
+mod tally;
+#[cfg(test)]
+mod tests;
 mod words;
 
 pub use fault::ParseFault;

@@ -1,13 +1,12 @@
 use Rattle.std.proofs.Common.{◌≡◌, ◌+◌, ◌-◌, ◌≤◌, [], length, drop}
 use Rattle.std.specs.Str.Lines.{lines as lines_of}
 use Rattle.ck_script.specs.Reading.{read_lines}
-use Rattle.ck_script.specs.Steps.{AreInOrder, calls_of}
+use Rattle.ck_script.specs.Steps.{calls_of}
 use Rattle.ck_script.proofs.parser.read_text.Given as goal
 
 abbrev pub invariant-loop-at : goal.invariant-loop-at
 invariant-loop-at l = record {
-  read : read_lines l.long l.number (calls_of l.lines.items) (lines_of (drop l.at l.text)) ≡ read_lines l.long 1 [] (lines_of l.text);
-  order : AreInOrder l.lines.items;
+  read : read_lines l.long l.number (calls_of l.tally) (lines_of (drop l.at l.text)) ≡ read_lines l.long 1 [] (lines_of l.text);
   few : l.number ≤ l.at + 1;
 }
 
