@@ -12,9 +12,7 @@ use crate::changes::FILE_LIMIT;
 use crate::giving::{fits, give_up, no_space};
 use crate::reporting::{info_of, listing_of};
 use crate::room::Room;
-use crate::{
-    Answer, Next, Plain, PlainMap, changed, names_listed, range_read, status_of,
-};
+use crate::{Answer, Next, Plain, PlainMap, changed, names_listed, range_read, status_of};
 use ck_model::{Call, Cell, Counters, Key, Limits, Mounts, NoMemory, Payload, Reply};
 use std::alloc::Global;
 
