@@ -1,6 +1,7 @@
 -- The calls of a script that is accepted are built.
 use Rattle.std.proofs.Common.{◌≡◌, ℕ, ◌+◌, ◌≤◌, Bool, true, false, cond, List, [], ◌∷◌, ◌++◌, length, Option, Some, None, Result, Ok, Err, codes, nat_eq, nat_le, refl, subst, sym, arith}
-use Rattle.std.specs.Prelude.{map as list_map}
+use Rattle.std.specs.Prelude.{◌&&◌, map as list_map}
+use Rattle.std.specs.List.{sum_by}
 use Rattle.std.specs.List.{AllByRecursion}
 use Rattle.std.specs.Option.{option_map_or, option_map, option_and_then}
 use Rattle.std.proofs.lemmas.Option.{option_and_then_some}
@@ -11,8 +12,8 @@ use Rattle.ck_text.specs.Decimal.{number_of}
 use Rattle.ck_text.specs.Words.{words_of}
 use Rattle.ck_script.specs.declared.line.Line.{Line}
 use Rattle.ck_script.specs.Grammar.{call_of, make_of, write_of, write_within, read_of, create_of, mount_of, cread_of, path_of, number_up_to, bytes_of, checkpoint_name, letter_of, place_limit, is_text}
-use Rattle.ck_script.specs.Reading.{read_lines, read_script, call_in, call_by_words, one_more, are_within_limits, is_skipped, long_line}
-use Rattle.ck_admin.specs.Built.{IsBuilt}
+use Rattle.ck_script.specs.Reading.{read_lines, read_script, call_in, call_by_words, one_more, asked_by, are_within_limits, call_limit, length_limit, is_skipped, long_line}
+use Rattle.ck_volume.specs.Built.{IsBuilt}
 
 -- every call that this may give is built
 abbrev Builds : Option Call → Type 0
@@ -132,28 +133,48 @@ more_built calls more (Some call) all builds h =
       | false ↦ λ h. cc
     ] h
 
-read_built : (long : Option ℕ) (number : ℕ) (calls result : List Call) (lines : List (List ℕ)) → AllBuilt calls → read_lines long number calls lines ≡ Ok result → AllBuilt result
-read_built None number calls result [] all h = let same : calls ≡ result = cc in subst AllBuilt same all
-read_built (Some line) number calls result [] all h = cc
-read_built long number calls result (line ∷ lines) all h =
-    elim (option_map_or (nat_eq number) long false) as (λ b. cond b (Err number) (cond (is_skipped line) (read_lines long (number + 1) calls lines) (option_map_or (λ more. read_lines long (number + 1) more lines) (one_more calls (call_in line)) (Err number))) ≡ Ok result → AllBuilt result) [
+-- what each accepted call keeps holds of all that are read
+read_keeps : (P : List Call → Type 0) → ((calls more : List Call) (line : List ℕ) → P calls → one_more calls (call_in line) ≡ Some more → P more)
+    → (long : Option ℕ) (number : ℕ) (calls result : List Call) (lines : List (List ℕ)) → P calls → read_lines long number calls lines ≡ Ok result → P result
+read_keeps P keeps None number calls result [] all h = let same : calls ≡ result = cc in subst P same all
+read_keeps P keeps (Some line) number calls result [] all h = cc
+read_keeps P keeps long number calls result (line ∷ lines) all h =
+    elim (option_map_or (nat_eq number) long false) as (λ b. cond b (Err number) (cond (is_skipped line) (read_lines long (number + 1) calls lines) (option_map_or (λ more. read_lines long (number + 1) more lines) (one_more calls (call_in line)) (Err number))) ≡ Ok result → P result) [
       | true ↦ λ h. cc
-      | false ↦ elim (is_skipped line) as (λ b. cond b (read_lines long (number + 1) calls lines) (option_map_or (λ more. read_lines long (number + 1) more lines) (one_more calls (call_in line)) (Err number)) ≡ Ok result → AllBuilt result) [
-        | true ↦ read_built long (number + 1) calls result lines all
-        | false ↦ one_line (call_in line) (words_build (words_of line)) (one_more calls (call_in line)) refl (λ more built. read_built long (number + 1) more result lines built)
+      | false ↦ elim (is_skipped line) as (λ b. cond b (read_lines long (number + 1) calls lines) (option_map_or (λ more. read_lines long (number + 1) more lines) (one_more calls (call_in line)) (Err number)) ≡ Ok result → P result) [
+        | true ↦ read_keeps P keeps long (number + 1) calls result lines all
+        | false ↦ one_line (one_more calls (call_in line)) (λ more is. read_keeps P keeps long (number + 1) more result lines (keeps calls more line all is))
       ]
     ] h
   where
-    one_line : (o : Option Call) → Builds o → (after : Option (List Call)) → one_more calls o ≡ after → ((more : List Call) → AllBuilt more → read_lines long (number + 1) more lines ≡ Ok result → AllBuilt result) →
-        option_map_or (λ more. read_lines long (number + 1) more lines) after (Err number) ≡ Ok result → AllBuilt result
-    one_line o builds None is again h = cc
-    one_line o builds (Some more) is again h = again more (more_built calls more o all builds is) h
+    one_line : (after : Option (List Call)) → ((more : List Call) → after ≡ Some more → read_lines long (number + 1) more lines ≡ Ok result → P result) →
+        option_map_or (λ more. read_lines long (number + 1) more lines) after (Err number) ≡ Ok result → P result
+    one_line None again h = cc
+    one_line (Some more) again h = again more refl h
 
 -- what a script is read as is built
 pub script_built : (bytes : List ℕ) (calls : List Call) → read_script bytes ≡ Ok calls → AllBuilt calls
-script_built bytes calls h = read_built (long_line bytes) 1 [] calls _ tt h
+script_built bytes calls h = read_keeps AllBuilt (λ calls more line all is. more_built calls more (call_in line) all (words_build (words_of line)) is) (long_line bytes) 1 [] calls _ tt h
 
 -- the lines of such a script are built
 pub lines_built : (lines : List Line) → AllBuilt (list_map (λ line. line.call) lines) → AllByRecursion (λ line. IsBuilt line.call) lines
 lines_built [] all = tt
 lines_built (line ∷ lines) all = (all.0, lines_built lines all.1)
+
+abbrev AreFew : List Call → Type 0
+AreFew calls = length calls ≤ 65536
+
+more_few : (calls more : List Call) (o : Option Call) → one_more calls o ≡ Some more → AreFew more
+more_few calls more None h = cc
+more_few calls more (Some call) h =
+    elim (are_within_limits (calls ++ call ∷ [])) as (λ b. are_within_limits (calls ++ call ∷ []) ≡ b → cond b (Some (calls ++ call ∷ [])) None ≡ Some more → AreFew more) [
+      | true ↦ λ within h. let same : calls ++ call ∷ [] ≡ more = cc in subst AreFew same (few (length (calls ++ call ∷ [])) (nat_le (sum_by asked_by (calls ++ call ∷ [])) length_limit) within)
+      | false ↦ λ _ h. cc
+    ] refl h
+  where
+    few : (n : ℕ) (b : Bool) → (nat_le n call_limit && b) ≡ true → n ≤ 65536
+    few n b h = grind (arith, nat_tests)
+
+-- a script has at most 65,536 calls
+pub script_few : (bytes : List ℕ) (calls : List Call) → read_script bytes ≡ Ok calls → AreFew calls
+script_few bytes calls h = read_keeps AreFew (λ calls more line few is. more_few calls more (call_in line) is) (long_line bytes) 1 [] calls _ (omega arith) h

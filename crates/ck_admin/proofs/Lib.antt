@@ -1,3 +1,4 @@
 pub mod PlayLemmas
 pub mod BuiltLemmas
+pub mod WordLemmas
 pub mod TopLemmas

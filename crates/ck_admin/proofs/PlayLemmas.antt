@@ -1,6 +1,6 @@
 -- A play, one entry after another.
-use Rattle.std.proofs.Common.{◌≡◌, ℕ, zero, suc, ◌+◌, ◌<◌, ◌≤◌, Bool, true, false, cond, ◌&&◌, None, Some, Option, IsTrue, IsSomeAnd, MatchOption, List, [], ◌∷◌, ◌++◌, length, take, drop, get_or, nat_eq, nat_le, if◌then◌else◌, refl, sym, ap, ◌∙◌, subst, arith, drop-cons, length-append}
-use Rattle.std.specs.Prelude.{slice_get, map as list_map}
+use Rattle.std.proofs.Common.{◌≡◌, ℕ, zero, suc, ◌+◌, ◌<◌, ◌≤◌, Bool, true, false, cond, ◌||◌, ◌⊎◌, inl, inr, None, Some, is_some, Option, IsTrue, MatchOption, List, [], ◌∷◌, ◌++◌, length, take, drop, get_or, nat_eq, nat_le, if◌then◌else◌, refl, sym, ap, ◌∙◌, subst, arith, add-zero, drop-cons, length-append}
+use Rattle.std.specs.Prelude.{◌-◌, ◌^◌, min, slice_get, map as list_map}
 use Rattle.std.specs.List.{filter_map, cons_option, range_with_len, AllByRecursion}
 use Rattle.std.specs.Option.{option_map_or, option_or}
 use Rattle.std.proofs.lemmas.List.{take-append-drop, map-append, take_all}
@@ -19,8 +19,11 @@ use Rattle.ck_model.proofs.HistoryLemmas.{past_of-append, IsLegalFrom-append, Is
 use Rattle.ck_script.specs.declared.line.Line.{Line}
 use Rattle.ck_script.specs.Numbered.{calls_in, numbers_in, IsNumbered}
 use Rattle.ck_io.specs.Clock.{ClockMeaning}
-use Rattle.ck_admin.specs.Answering.{Answers}
-use Rattle.ck_admin.specs.Play.{opening, is_device_fault, IsPlay}
+use Rattle.ck_disk.specs.Disk.{Meaning, Rose}
+use Rattle.ck_model.specs.declared.reply.Reply.TheVariants.{Broken}
+use Rattle.ck_volume.specs.Opening.{opening}
+use Rattle.ck_volume.specs.Volume.{Follows, HasCause, is_read_fault}
+use Rattle.ck_admin.specs.Play.{replies_of, HasCauses, broken_by, BreaksFrom, lost_a_write, IsPlay, IsLater}
 
 get_here : {A : Type 0} (xs : List A) (y : A) (ys : List A) → slice_get (xs ++ y ∷ ys) (length xs) ≡ Some y
 get_here [] y ys = refl
@@ -105,106 +108,157 @@ of_lines lines history numbered same actor =
     ∙ numbered actor ∙ ap (range_with_len 1) (sym (calls_as_many lines actor))
 
 -- what holds after the first so many lines
-pub record IsSoFar (lines : List Line) (clock : ClockMeaning) (at : ℕ) (w : World) (history : List Entry) : Type 0 where
-  pub past : (texts : Texts) → past_of texts (call_at (calls_in lines)) (begun opening) history ≡ record { world = w; length = length history; broken = None }
-  pub legal : (texts : Texts) → IsLegal texts (call_at (calls_in lines)) opening history
+pub record IsSoFar (lines : List Line) (clock : ClockMeaning) (old now : Meaning) (at : ℕ) (past : Past) (history : List Entry) : Type 0 where
+  pub leads : IsTrue old.tells → (texts : Texts) → past_of texts (call_at (calls_in lines)) (begun opening) history ≡ past
+  pub legal : IsTrue old.tells → (texts : Texts) → IsLegal texts (call_at (calls_in lines)) opening history
   pub places : list_map place_of_entry history ≡ list_map place_of_line (take at lines)
   pub moments : IsTrue clock.tells → AllByRecursion (λ entry. entry.at ≡ clock.moment) history
-  pub no_faults : AllByRecursion (λ entry. is_device_fault entry.reply ≡ false) history
+  pub causes : HasCauses old now history
+  pub breaks : BreaksFrom 0 None history
+  pub count : past.length ≡ length history
+  pub broken : past.broken ≡ broken_by 0 None history
+  pub later : IsLater old now
 
-no_texts : Texts
-no_texts = record { full = λ id items. []; changes = λ first second items. [] }
-
--- the step's own answer
-pub answers : (w next : World) (call : Call) (entry : Entry) →
-    ((texts : Texts) → step texts w entry.actor entry.at call ≡ record { reply = entry.reply; given = entry.given; next = next }) → Answers w next call entry
-answers w next call entry is =
-    let same = λ (texts : Texts). let same_reply : entry.reply ≡ (step texts w entry.actor entry.at call).reply = sym (ap (λ (o : Outcome). o.reply) (is texts)) in
-    let same_given : entry.given ≡ (step texts w entry.actor entry.at call).given = sym (ap (λ (o : Outcome). o.given) (is texts)) in
-    let both : IsStepOf (step texts w entry.actor entry.at call) entry = record { reply = same_reply; given = same_given } in both in
-    record {
-      legal = λ texts. IsStepOf-legal texts w call entry (same texts);
-      leads = λ texts. world_after-step texts w call entry (same texts) ∙ ap (λ (o : Outcome). o.next) (is texts);
-      no_fault = ap (λ b. b && nat_le (reply_number entry.reply) 20) (ap is_fault (same no_texts).reply ∙ (step-sound no_texts w entry.actor entry.at call).no_fault);
-    }
-
-pub started : (lines : List Line) (clock : ClockMeaning) → IsSoFar lines clock 0 opening []
-started lines clock = record { past = λ texts. refl; legal = λ texts. tt; places = refl; moments = λ told. tt; no_faults = tt }
+pub started : (lines : List Line) (clock : ClockMeaning) (m : Meaning) (past : Past) → past ≡ begun opening → IsSoFar lines clock m m 0 past []
+started lines clock m past is = record {
+  leads = λ told texts. sym is;
+  legal = λ told texts. tt;
+  places = refl;
+  moments = λ told. tt;
+  causes = record { reads = capped m.read_faults; writes = capped m.write_faults };
+  breaks = tt;
+  count = ap (λ (p : Past). p.length) is;
+  broken = ap (λ (p : Past). p.broken) is;
+  later = record { size = refl; tells = refl; reads = omega arith; writes = omega arith };
+}
+  where
+    capped : (n : ℕ) → min (n + 0) (2 ^ 64 - 1) ≤ n
+    capped n = grind (arith)
 
 all_more : (P : Entry → Type 0) (history : List Entry) (entry : Entry) → AllByRecursion P history → P entry → AllByRecursion P (history ++ entry ∷ [])
 all_more P [] entry h p = (p, tt)
 all_more P (first ∷ history) entry h p = (h.0, all_more P history entry h.1 p)
 
-no_write_fault : (number : ℕ) → (nat_le 18 number && nat_le number 20) ≡ false → nat_eq number 19 ≡ false
-no_write_fault number h = grind (arith, nat_tests)
+replies-more : (is : Reply → Bool) (history : List Entry) (entry : Entry) → replies_of is (history ++ entry ∷ []) ≡ replies_of is history + (if is entry.reply then 1 else 0)
+replies-more is [] entry = omega arith
+replies-more is (first ∷ history) entry = omega (arith, replies-more is history entry)
 
-not_broken : (number : ℕ) → (nat_le 18 number && nat_le number 20) ≡ false → nat_eq number 20 ≡ false
-not_broken number h = grind (arith, nat_tests)
+broken-more : (number : ℕ) (broken : Option ℕ) (history : List Entry) (entry : Entry)
+    → broken_by number broken (history ++ entry ∷ []) ≡ option_or (broken_by number broken history) (if is_write_fault entry.reply then Some (number + length history) else None)
+broken-more number broken [] entry = ap (λ n. option_or broken (if is_write_fault entry.reply then Some n else None)) (sym (add-zero number))
+broken-more number broken (first ∷ history) entry =
+    let next = option_or broken (if is_write_fault first.reply then Some number else None) in
+    let same : (number + 1) + length history ≡ number + suc (length history) = omega arith in
+    broken-more (number + 1) next history entry
+    ∙ ap (λ n. option_or (broken_by (number + 1) next history) (if is_write_fault entry.reply then Some n else None)) same
 
--- a call's entry after those before it
-module _ (texts : Texts) (calls : CallsBy) (w next : World) (count : ℕ) (call : Call) (entry : Entry) (answers : Answers w next call entry) (is : calls entry.actor entry.seq ≡ Some call) where
-  here : Past
-  here = record { world = w; length = count; broken = None }
+breaks-more : (number : ℕ) (broken : Option ℕ) (history : List Entry) (entry : Entry) → BreaksFrom number broken history
+    → MatchOption (broken_by number broken history) (is_broken entry.reply ≡ false) (λ by. entry.reply ≡ Broken by) → BreaksFrom number broken (history ++ entry ∷ [])
+breaks-more number broken [] entry h next = (next, tt)
+breaks-more number broken (first ∷ history) entry h next =
+    (h.0, breaks-more (number + 1) (option_or broken (if is_write_fault first.reply then Some number else None)) history entry h.1 next)
 
-  legal_here : IsLegalNext texts calls here entry
-  unfolding here
-  legal_here =
-      let none : Option ℕ = None in
-      subst (λ o. IsSomeAnd o (λ call. MatchOption none (IsLegalWhole texts w call entry) (λ broken. IsRefusal broken entry))) (sym is)
-      (record { legal = answers.legal texts; whole = not_broken (reply_number entry.reply) answers.no_fault })
+-- a volume is broken exactly where an entry is WriteFault
+pub broken-is : (number : ℕ) (broken : Option ℕ) (history : List Entry) → is_some (broken_by number broken history) ≡ (is_some broken || lost_a_write history)
+broken-is number broken [] = sym (or_false (is_some broken))
+  where
+    or_false : (b : Bool) → (b || false) ≡ b
+    or_false true = refl
+    or_false false = refl
+broken-is number broken (first ∷ history) =
+    broken-is (number + 1) (option_or broken (if is_write_fault first.reply then Some number else None)) history
+    ∙ either broken (is_write_fault first.reply) (lost_a_write history)
+  where
+    either : (o : Option ℕ) (b rest : Bool) → (is_some (option_or o (if b then Some number else None)) || rest) ≡ (is_some o || (b || rest))
+    either None true rest = refl
+    either None false rest = refl
+    either (Some n) b rest = refl
 
-  then_past : past_after texts calls here entry ≡ record { world = next; length = count + 1; broken = None }
-  unfolding here
-  then_past =
-      let world : option_map_or (λ call. world_after texts w call entry) (calls entry.actor entry.seq) w ≡ next =
-      ap (λ o. option_map_or (λ call. world_after texts w call entry) o w) is ∙ answers.leads texts in
-      let broken : (if is_write_fault entry.reply then Some count else None) ≡ None =
-      ap (λ b. if b then Some count else None) (no_write_fault (reply_number entry.reply) answers.no_fault) in
-      λ i. record { world = world i; length = count + 1; broken = broken i }
+cause-more : (old mid new count more : ℕ) → min (old + count) (2 ^ 64 - 1) ≤ mid → mid ≤ new → (more ≡ 0) ⊎ ((more ≡ 1) × Rose mid new) → min (old + (count + more)) (2 ^ 64 - 1) ≤ new
+cause-more old mid new count more so_far later (inl none) = omega (arith, so_far, later, none)
+cause-more old mid new count more so_far later (inr one) = omega (arith, so_far, later, one.0, one.1)
+
+abbrev one_if : Bool → ℕ
+one_if b = if b then 1 else 0
+
+one_or_none : (b : Bool) (P : Type 0) → (b ≡ true → P) → (one_if b ≡ 0) ⊎ ((one_if b ≡ 1) × P)
+one_or_none true P h = inr (refl, h refl)
+one_or_none false P h = inl refl
+
+causes-more : (old mid new : Meaning) (history : List Entry) (entry : Entry) → HasCauses old mid history → mid.read_faults ≤ new.read_faults → mid.write_faults ≤ new.write_faults → HasCause mid new entry.reply → HasCauses old new (history ++ entry ∷ [])
+causes-more old mid new history entry causes reads writes cause = record {
+  reads = subst (λ (n : ℕ). min (old.read_faults + n) (2 ^ 64 - 1) ≤ new.read_faults) (sym (replies-more is_read_fault history entry))
+      (cause-more old.read_faults mid.read_faults new.read_faults (replies_of is_read_fault history) (if is_read_fault entry.reply then 1 else 0) causes.reads reads (one_or_none (is_read_fault entry.reply) (Rose mid.read_faults new.read_faults) cause.read));
+  writes = subst (λ (n : ℕ). min (old.write_faults + n) (2 ^ 64 - 1) ≤ new.write_faults) (sym (replies-more is_write_fault history entry))
+      (cause-more old.write_faults mid.write_faults new.write_faults (replies_of is_write_fault history) (if is_write_fault entry.reply then 1 else 0) causes.writes writes (one_or_none (is_write_fault entry.reply) (Rose mid.write_faults new.write_faults) cause.write));
+}
 
 parts_at : (lines : List Line) (at : ℕ) (line : Line) → at < length lines → line ≡ get_or lines at line → lines ≡ take at lines ++ line ∷ drop (suc at) lines
 parts_at lines at line within is =
     sym (take-append-drop at lines) ∙ ap (λ rest. take at lines ++ rest) (drop-cons lines at line within ∙ ap (λ first. first ∷ drop (suc at) lines) (sym is))
 
+-- what a volume's event says of the entry of a line
+pub record Answered (line : Line) (clock : ClockMeaning) (mid new : Meaning) (past next : Past) (entry : Entry) : Type 0 where
+  pub actor : entry.actor ≡ line.actor
+  pub seq : entry.seq ≡ line.seq
+  pub moment : IsTrue clock.tells → entry.at ≡ clock.moment
+  pub follows : IsTrue mid.tells → (texts : Texts) (calls : CallsBy) → calls line.actor line.seq ≡ Some line.call → Follows texts calls past entry next
+  pub length : next.length ≡ past.length + 1
+  pub broken : next.broken ≡ option_or past.broken (if is_write_fault entry.reply then Some past.length else None)
+  pub refused : MatchOption past.broken (is_broken entry.reply ≡ false) (λ by. entry.reply ≡ Broken by)
+  pub cause : HasCause mid new entry.reply
+  pub later : IsLater mid new
+
 -- the entry of the next line
-pub goes_on : (lines : List Line) (clock : ClockMeaning) (at : ℕ) (w next : World) (history : List Entry) (line : Line) (entry : Entry) →
-    IsNumbered lines → at < length lines → line ≡ get_or lines at line → IsSoFar lines clock at w history → Answers w next line.call entry →
-    entry.actor ≡ line.actor → entry.seq ≡ line.seq → (IsTrue clock.tells → entry.at ≡ clock.moment) →
-    IsSoFar lines clock (suc at) next (history ++ entry ∷ [])
-unfolding here
-goes_on lines clock at w next history line entry numbered within is so_far answers actor seq moment =
+pub goes_on : (lines : List Line) (clock : ClockMeaning) (old mid new : Meaning) (at : ℕ) (past next : Past) (history : List Entry) (line : Line) (entry : Entry) →
+    IsNumbered lines → at < length lines → line ≡ get_or lines at line → IsSoFar lines clock old mid at past history → Answered line clock mid new past next entry →
+    IsSoFar lines clock old new (suc at) next (history ++ entry ∷ [])
+goes_on lines clock old mid new at past next history line entry numbered within is so_far answered =
     let calls = call_at (calls_in lines) in
     let parts = parts_at lines at line within is in
     let before = take at lines in
     let after = drop (suc at) lines in
-    let called : calls entry.actor entry.seq ≡ Some line.call =
-    (λ i. call_at (calls_in (parts i)) (actor i) (seq i)) ∙ call_here before after line (subst IsNumbered parts numbered) in
+    let called : calls line.actor line.seq ≡ Some line.call =
+    ap (λ lines. call_at (calls_in lines) line.actor line.seq) parts ∙ call_here before after line (subst IsNumbered parts numbered) in
     let many : length history + 1 ≡ length (history ++ entry ∷ []) = simp length-append (omega arith) in
+    let told_mid : IsTrue old.tells → IsTrue mid.tells = λ told. subst IsTrue (sym so_far.later.tells) told in
     record {
-      past = λ texts.
+      leads = λ told texts.
           past_of-append texts calls (begun opening) history (entry ∷ [])
-          ∙ ap (λ past. past_after texts calls past entry) (so_far.past texts)
-          ∙ then_past texts calls w next (length history) line.call entry answers called
-          ∙ ap (λ count. record { world = next; length = count; broken = None }) many;
-      legal = λ texts. IsLegalFrom-append texts calls (begun opening) history (entry ∷ []) (so_far.legal texts)
-          (subst (λ past. IsLegalFrom texts calls past (entry ∷ [])) (sym (so_far.past texts)) (legal_here texts calls w next (length history) line.call entry answers called, tt));
+          ∙ ap (λ past. past_after texts calls past entry) (so_far.leads told texts)
+          ∙ (answered.follows (told_mid told) texts calls called).leads;
+      legal = λ told texts. IsLegalFrom-append texts calls (begun opening) history (entry ∷ []) (so_far.legal told texts)
+          (subst (λ past. IsLegalFrom texts calls past (entry ∷ [])) (sym (so_far.leads told texts)) ((answered.follows (told_mid told) texts calls called).legal, tt));
       places =
           map-append place_of_entry history (entry ∷ [])
-          ∙ (λ i. so_far.places i ++ (actor i, seq i) ∷ [])
+          ∙ (λ i. so_far.places i ++ (answered.actor i, answered.seq i) ∷ [])
           ∙ sym (map-append place_of_line before (line ∷ []))
           ∙ ap (list_map place_of_line) (sym (taken_more lines at line within is));
-      moments = λ told. all_more (λ entry. entry.at ≡ clock.moment) history entry (so_far.moments told) (moment told);
-      no_faults = all_more (λ entry. is_device_fault entry.reply ≡ false) history entry so_far.no_faults answers.no_fault;
+      moments = λ told. all_more (λ entry. entry.at ≡ clock.moment) history entry (so_far.moments told) (answered.moment told);
+      causes = causes-more old mid new history entry so_far.causes answered.later.reads answered.later.writes answered.cause;
+      breaks = breaks-more 0 None history entry so_far.breaks (subst (λ o. MatchOption o (is_broken entry.reply ≡ false) (λ by. entry.reply ≡ Broken by)) so_far.broken answered.refused);
+      count = answered.length ∙ ap (λ n. n + 1) so_far.count ∙ many;
+      broken = answered.broken ∙ (λ i. option_or (so_far.broken i) (if is_write_fault entry.reply then Some (so_far.count i) else None)) ∙ sym (broken-more 0 None history entry ∙ ap (λ n. option_or (broken_by 0 None history) (if is_write_fault entry.reply then Some n else None)) (zero_plus (length history)));
+      later = record {
+        size = answered.later.size ∙ so_far.later.size;
+        tells = answered.later.tells ∙ so_far.later.tells;
+        reads = omega (arith, so_far.later.reads, answered.later.reads);
+        writes = omega (arith, so_far.later.writes, answered.later.writes);
+      };
     }
   where
+    zero_plus : (n : ℕ) → 0 + n ≡ n
+    zero_plus n = omega arith
+
     taken_more : (lines : List Line) (at : ℕ) (line : Line) → at < length lines → line ≡ get_or lines at line → take (suc at) lines ≡ take at lines ++ line ∷ []
     taken_more lines at line within is = take-suc lines at line within ∙ ap (λ last. take at lines ++ last ∷ []) (sym is)
 
 -- all lines were played
-pub whole : (lines : List Line) (clock : ClockMeaning) (w : World) (history : List Entry) → IsNumbered lines → (at : ℕ) → length lines ≤ at → IsSoFar lines clock at w history → IsPlay (calls_in lines) clock history
-whole lines clock w history numbered at all so_far = record {
+pub whole : (lines : List Line) (clock : ClockMeaning) (old now : Meaning) (past : Past) (history : List Entry) → IsNumbered lines → (at : ℕ) → length lines ≤ at → IsSoFar lines clock old now at past history → IsPlay (calls_in lines) clock old now history
+whole lines clock old now past history numbered at all so_far = record {
   legal = so_far.legal;
   of_script = of_lines lines history numbered (so_far.places ∙ ap (list_map place_of_line) (take_all at lines all));
   moments = so_far.moments;
-  no_faults = so_far.no_faults;
+  causes = so_far.causes;
+  breaks = so_far.breaks;
 }

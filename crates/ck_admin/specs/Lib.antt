@@ -1,5 +1,3 @@
-pub mod Built
-pub mod Answering
 pub mod Play
 pub mod Statuses
 pub mod Top

@@ -1,5 +1,5 @@
 -- Why reading a script, or printing a transcript, ends with a status.
-use Rattle.std.specs.Prelude.{◌≡◌, ℕ, List, IsTrue, Result, Err}
+use Rattle.std.specs.Prelude.{◌≡◌, ℕ, Bool, List, IsTrue, Result, Ok, Err, codes, if◌then◌else◌}
 use Rattle.ck_report.specs.declared.status.Status.{Status}
 use Rattle.ck_report.specs.declared.status.Status.TheVariants.{Done, Refused, Usage, BadScript, NotOpened, DeviceFault, SourceFault, SinkFault, NoMemory}
 use Rattle.ck_io.specs.Bytes.{GainsPrefix}
@@ -35,3 +35,20 @@ IsPrintFault old new text DeviceFault = ⊥
 IsPrintFault old new text SourceFault = ⊥
 IsPrintFault old new text SinkFault = GainsInPart old new text
 IsPrintFault old new text NoMemory = IsTrue old.tells → new.holds ≡ old.holds
+
+-- the device has too few blocks, or memory was refused
+abbrev pub IsNotVolume : Status → Type 0
+IsNotVolume Done = ⊥
+IsNotVolume (Refused words) = ⊥
+IsNotVolume Usage = ⊥
+IsNotVolume (BadScript line) = ⊥
+IsNotVolume (NotOpened words) = words ≡ codes "NotVolume"
+IsNotVolume DeviceFault = ⊥
+IsNotVolume SourceFault = ⊥
+IsNotVolume SinkFault = ⊥
+IsNotVolume NoMemory = Unit {0}
+
+-- the status of a play: that a write was lost comes before what printing said
+abbrev pub play_status : Bool → Result (Unit {0}) Status → Status
+play_status lost (Ok done) = if lost then DeviceFault else Done
+play_status lost (Err status) = if lost then DeviceFault else status

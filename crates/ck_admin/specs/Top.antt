@@ -1,6 +1,7 @@
 -- What the top call promises.
-use Rattle.std.specs.Prelude.{◌≡◌, ◌++◌, ℕ, Bool, true, false, nat_eq, List, [], ◌∷◌, IsTrue, Result, Ok, Err, codes, map as list_map}
+use Rattle.std.specs.Prelude.{◌≡◌, ◌≤◌, ◌<◌, ◌++◌, ◌⊎◌, ℕ, Bool, true, false, nat_eq, List, [], ◌∷◌, IsTrue, Result, Ok, Err, codes, map as list_map}
 use Rattle.std.specs.Cmp.Lexicographic.{pointwise}
+use Rattle.ck_disk.specs.Disk.{Meaning, Rose}
 use Rattle.ck_model.specs.declared.call.Call.{Call}
 use Rattle.ck_model.specs.declared.entry.Entry.{Entry}
 use Rattle.ck_model.specs.History.{call_at}
@@ -9,23 +10,26 @@ use Rattle.ck_report.specs.declared.status.Status.TheVariants.{Done, Refused, Us
 use Rattle.ck_report.specs.Transcript.{transcript_text}
 use Rattle.ck_io.specs.Bytes.{GainsPrefix}
 use Rattle.ck_io.specs.Clock.{ClockMeaning}
-use Rattle.ck_io.specs.Faults.{Rose}
+use Rattle.ck_io.specs.Faults as io
 use Rattle.ck_io.specs.Sink.{SinkMeaning}
 use Rattle.ck_io.specs.Source.{SourceMeaning}
 use Rattle.ck_script.specs.Reading.{read_script}
-use Rattle.ck_admin.specs.Play.{IsPlay}
+use Rattle.ck_volume.specs.Opening.{device_blocks}
+use Rattle.ck_admin.specs.Play.{IsPlay, lost_a_write}
 
 -- each call by actor 1
 abbrev pub by_one : List Call → List (ℕ × Call)
 by_one calls = list_map (λ call. (1, call)) calls
 
--- What the source had left is a script, this is a play of it, and P holds of the play's transcript. A source that
--- doesn't tell what it had left may have had any script.
-pub record PrintsPlay (source : SourceMeaning) (clock : ClockMeaning) (P : List ℕ → Type 0) : Type 0 where
+-- What the source had left is a script, this is a play of it on the device, which is long enough, and P holds of the
+-- play's transcript. A write of it failed or not. A source that doesn't tell what it had left may have had any script.
+pub record PrintsPlay (source : SourceMeaning) (clock : ClockMeaning) (before after : Meaning) (lost : Bool) (P : List ℕ → Type 0) : Type 0 where
   pub calls : List Call
   pub history : List Entry
   pub script : IsTrue source.tells → read_script source.left ≡ Ok calls
-  pub play : IsPlay (by_one calls) clock history
+  pub long : device_blocks ≤ before.size
+  pub play : IsPlay (by_one calls) clock before after history
+  pub write_faults : lost_a_write history ≡ lost
   pub printed : P (transcript_text (call_at (by_one calls)) history)
 
 -- where the sink tells what it holds, it gained this text
@@ -39,17 +43,22 @@ GainsFront old new text = IsTrue old.tells → GainsPrefix old.holds new.holds t
 abbrev pub GainsNothing : SinkMeaning → SinkMeaning → Type 0
 GainsNothing old new = IsTrue old.tells → new.holds ≡ old.holds
 
+-- the whole text, or nothing, or, where the sink failed, the front of it
+abbrev pub GainsAllOrNothing : SinkMeaning → SinkMeaning → List ℕ → Type 0
+GainsAllOrNothing old new text = Gains old new text ⊎ (GainsNothing old new ⊎ (io.Rose old.faults new.faults × GainsFront old new text))
+
 -- how a play ends: why, and what is printed then
-abbrev pub EndsPlay : SourceMeaning → SourceMeaning → ClockMeaning → SinkMeaning → SinkMeaning → Status → Type 0
-EndsPlay source left clock old new Done = PrintsPlay source clock (Gains old new)
-EndsPlay source left clock old new (Refused words) = ⊥
-EndsPlay source left clock old new Usage = ⊥
-EndsPlay source left clock old new (BadScript line) = (IsTrue source.tells → read_script source.left ≡ Err line) × GainsNothing old new
-EndsPlay source left clock old new (NotOpened words) = ⊥
-EndsPlay source left clock old new DeviceFault = ⊥
-EndsPlay source left clock old new SourceFault = Rose source.faults left.faults × GainsNothing old new
-EndsPlay source left clock old new SinkFault = Rose old.faults new.faults × PrintsPlay source clock (GainsFront old new)
-EndsPlay source left clock old new NoMemory = GainsNothing old new
+abbrev pub EndsPlay : SourceMeaning → SourceMeaning → ClockMeaning → SinkMeaning → SinkMeaning → Meaning → Meaning → Status → Type 0
+EndsPlay source left clock old new before after Done = PrintsPlay source clock before after false (Gains old new)
+EndsPlay source left clock old new before after (Refused words) = ⊥
+EndsPlay source left clock old new before after Usage = ⊥
+EndsPlay source left clock old new before after (BadScript line) = (IsTrue source.tells → read_script source.left ≡ Err line) × GainsNothing old new
+EndsPlay source left clock old new before after (NotOpened words) = (words ≡ codes "NotVolume") × (before.size < device_blocks) × GainsNothing old new
+EndsPlay source left clock old new before after DeviceFault =
+    Rose before.write_faults after.write_faults × PrintsPlay source clock before after true (GainsAllOrNothing old new)
+EndsPlay source left clock old new before after SourceFault = io.Rose source.faults left.faults × GainsNothing old new
+EndsPlay source left clock old new before after SinkFault = io.Rose old.faults new.faults × PrintsPlay source clock before after false (GainsFront old new)
+EndsPlay source left clock old new before after NoMemory = GainsNothing old new
 
 -- the one word `play`
 abbrev pub is_play_word : List (List ℕ) → Bool
@@ -67,6 +76,18 @@ is_usage DeviceFault = false
 is_usage SourceFault = false
 is_usage SinkFault = false
 is_usage NoMemory = false
+
+-- such an end comes before any call of the device
+abbrev pub leaves_device : Status → Bool
+leaves_device Done = false
+leaves_device (Refused words) = false
+leaves_device Usage = true
+leaves_device (BadScript line) = true
+leaves_device (NotOpened words) = true
+leaves_device DeviceFault = false
+leaves_device SourceFault = true
+leaves_device SinkFault = false
+leaves_device NoMemory = false
 
 -- nothing is read and nothing printed
 pub record IsUntouched (before after : SourceMeaning) (old new : SinkMeaning) : Type 0 where

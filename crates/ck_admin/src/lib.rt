@@ -1,7 +1,6 @@
 //! The top call of the programs: words, a script, its play, and what is printed of it.
 #![tactic(auto)]
 
-mod answer;
 mod command;
 mod playing;
 mod print;

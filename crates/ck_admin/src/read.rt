@@ -1,7 +1,7 @@
-ghost use Rattle.std.specs.Prelude.{◌≡◌, ◌≤◌, IsTrue, IfOk, IfErr, Ok, map as list_map};
+ghost use Rattle.std.specs.Prelude.{◌≡◌, ◌≤◌, IsTrue, IfOk, IfErr, Ok, length, map as list_map};
 ghost use Rattle.std.specs.List.{AllByRecursion};
 ghost use Rattle.ck_script.specs.Reading.{read_script};
-ghost use Rattle.ck_admin.specs.Built.{IsBuilt};
+ghost use Rattle.ck_volume.specs.Built.{IsBuilt};
 ghost use Rattle.ck_admin.specs.Statuses.{IsReadFault};
 
 use ck_io::{InputFault, Source, read_all};
@@ -30,6 +30,7 @@ fn read_bytes<S: Source>(alloc: Global, source: &mut S) -> Result<Vec<u8>, Statu
 pub fn read<S: Source>(alloc: Global, source: &mut S) -> Result<Script, Status>
     ensures script { IfOk result (λ script. IsTrue (S.means source.old).tells → read_script (S.means source.old).left ≡ Ok (list_map (λ line. line.call) script.calls)) }
     ensures built { IfOk result (λ script. AllByRecursion (λ line. IsBuilt line.call) script.calls) }
+    ensures few { IfOk result (λ script. length script.calls ≤ 65536) }
     ensures actor { IfOk result (λ script. AllByRecursion (λ line. line.actor ≡ 1) script.calls) }
     ensures fault { IfErr result (λ status. IsReadFault (S.means source.old) (S.means source.new) status) }
     ensures tells { (S.means source.new).tells ≡ (S.means source.old).tells }

@@ -2,7 +2,7 @@ use Rattle.std.proofs.Common.{codes, nat_eq, sym, ap, ◌∙◌}
 use Rattle.std.specs.Prelude.{string_bytes, map as list_map}
 use Rattle.std.specs.Cmp.Lexicographic.{pointwise}
 use Rattle.ck_admin.specs.Top.{is_play_word}
-use Rattle.ck_admin.proofs.TopLemmas.{singleton}
+use Rattle.ck_admin.proofs.WordLemmas.{singleton}
 use Rattle.ck_admin.proofs.command.is_play.Goals as goal
 
 pub returns-in-len1 : goal.returns-in-len1

@@ -1,9 +1,10 @@
--- The calls that scripts have today.
-use Rattle.std.specs.Prelude.{◌≡◌, ◌+◌, ◌≤◌, ⊤, false, length}
+-- The calls that a volume has today.
+use Rattle.std.specs.Prelude.{◌≡◌, ◌≤◌, ◌+◌, ⊤, false, length}
 use Rattle.ck_model.specs.declared.call.Call.{Call}
 use Rattle.ck_model.specs.declared.call.Call.TheVariants.{Make, Write, Read, Create, Mount, Cread}
 
--- make, write, read, create without flags, mount and cread, within the first block of a file
+-- make, write, read, create without flags, mount and cread, with places and lengths up to a block, and writes that end
+-- within the first one
 abbrev pub IsBuilt : Call → Type 0
 IsBuilt (Make path) = ⊤
 IsBuilt (Write path at bytes) = at + length bytes ≤ 4096

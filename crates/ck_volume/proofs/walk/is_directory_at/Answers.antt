@@ -1,0 +1,11 @@
+use Rattle.std.proofs.Common.{ap, ◌∙◌}
+use Rattle.std.specs.Option.{option_map}
+use Rattle.ck_model.specs.declared.key.Key.TheVariants.{Node}
+use Rattle.ck_model.specs.Cells.{is_directory}
+use Rattle.ck_volume.specs.Values.{payload_of}
+use Rattle.ck_volume.proofs.Walking.{asked, directory-alike}
+use Rattle.ck_volume.proofs.walk.is_directory_at.Goals as goal
+
+pub returns : goal.returns
+returns c =
+    λ store. c.is_directory.ensures ∙ ap (λ small. is_directory (option_map payload_of small)) c.small_at.ensures ∙ asked is_directory directory-alike store c.args.values.now (Node c.args.node)

@@ -1,0 +1,11 @@
+use Rattle.std.proofs.Common.{ap, ◌∙◌}
+use Rattle.std.specs.Option.{option_map}
+use Rattle.ck_model.specs.declared.key.Key.TheVariants.{Node}
+use Rattle.ck_model.specs.Cells.{size_in}
+use Rattle.ck_volume.specs.Values.{payload_of}
+use Rattle.ck_volume.proofs.Walking.{asked, size-alike}
+use Rattle.ck_volume.proofs.walk.size_at.Goals as goal
+
+pub returns : goal.returns
+returns c =
+    λ store. c.size_in.ensures ∙ ap (λ small. size_in (option_map payload_of small)) c.small_at.ensures ∙ asked size_in size-alike store c.args.values.now (Node c.args.node)

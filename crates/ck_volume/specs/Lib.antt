@@ -1,0 +1,15 @@
+pub mod Values
+pub mod Growth
+pub mod Keeping
+pub mod Standing
+pub mod Putting
+pub mod Walking
+pub mod Room
+pub mod Making
+pub mod Naming
+pub mod Device
+pub mod Reading
+pub mod Writing
+pub mod Built
+pub mod Volume
+pub mod Opening
