@@ -37,7 +37,8 @@ fn entry_of(actor: u32, seq: u32, at: u64, reply: Reply) -> Entry
 }
 
 impl<D: Disk> Volume<D> {
-    /// The reply to an actor's call at a moment, on a volume that isn't broken; a failed write breaks it.
+    /// The reply to an actor's call at a moment, on a volume that isn't broken. A failed write
+    /// breaks it.
     fn answer(&mut self, alloc: Global, actor: u32, moment: u64, call: &Call) -> Reply
         requires built { IsBuilt call.now }
         requires ready { IsReady (D.means (disk_of self.old)) self.old }

@@ -17,6 +17,8 @@ mod reads;
 mod room;
 mod storing;
 mod table;
+#[cfg(test)]
+mod tests;
 mod values;
 mod volume;
 mod walk;

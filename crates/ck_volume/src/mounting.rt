@@ -24,7 +24,8 @@ impl Table {
         }
     }
 
-    /// Lets a letter of the actor's stand for a checkpoint. A refusal for want of memory changes nothing.
+    /// Lets a letter of the actor's stand for a checkpoint. A refusal for want of memory changes
+    /// nothing.
     pub fn mount(&mut self, actor: u32, letter: u8, name: &NameBytes) -> Result<Reply, NoMemory>
         ensures ok { IfOk result (λ reply. (store : Store) → done (world_on store self.old) (mounted (world_on store self.old) actor letter name.now) ≡ answered_with reply (world_on store self.new)) }
         ensures err { OnErr result (self.new ≡ self.old) }

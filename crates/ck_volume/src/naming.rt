@@ -54,7 +54,7 @@ fn first_unmarked(used: &[bool]) -> Option<usize>
 }
 
 impl Table {
-    /// The lowest data block that nothing names. Where all are in use it may be any.
+    /// A data block that nothing names. Where all are in use it may be any.
     pub fn unused_block(&self, alloc: Global) -> Result<u32, NoMemory>
         ensures { IfOk result (λ block. self.now.held < self.now.limits.blocks → IsUnused self.now.limits.blocks self.now.primary (frozen_values self.now.frozen) block) }
     {

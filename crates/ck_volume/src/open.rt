@@ -26,8 +26,8 @@ pub enum OpenFault<D> {
 }
 
 impl<D: Disk> Volume<D> {
-    /// The empty world, with the device's blocks from 21 on as its data blocks, whatever they hold. No call of the device
-    /// is made.
+    /// The empty world, with the device's blocks from 21 on as its data blocks, whatever they hold.
+    /// No call of the device is made.
     pub fn open(alloc: Global, disk: D) -> Result<Volume<D>, OpenFault<D>>
         ensures opened { IfOk result (IsOpened disk) }
         ensures long { IfOk result (λ volume. device_blocks ≤ (D.means disk).size) }

@@ -16,7 +16,8 @@ use ck_model::{Counters, Held, Key, Limits, Mounts, NoMemory, Reply, Small};
 use std::alloc::Global;
 
 impl Table {
-    /// Puts values of the next stamp, for which there is room, and sets the next file number. A refusal changes nothing.
+    /// Puts values of the next stamp, for which there is room, and sets the next file number. A
+    /// refusal changes nothing.
     pub fn put(&mut self, puts: &[(Key, Held)], growth: Growth, number: u32) -> Result<(), NoMemory>
         requires apart { Apart puts.now }
         requires stamped { AllStamped self.old.next.stamp puts.now }

@@ -16,7 +16,7 @@ use std::alloc::Global;
 /// The bytes of a block.
 pub const BLOCK: u64 = 4096;
 
-/// Where the data blocks stand: block n is the device's block `base` + n, for each n below `blocks`.
+/// Where the data blocks stand: for n below `blocks`, data block n is the device's `base` + n.
 #[derive(Clone, Copy, Debug, PartialEq, Eq)]
 pub struct DataArea {
     pub base: u32,
@@ -79,7 +79,7 @@ fn append_part<D: Disk>(
     Ok(())
 }
 
-/// The bytes of a file from a place on, so many of them as stand below its size.
+/// At most so many bytes of a file from a place on, as far as they stand below its size.
 pub fn read_range<D: Disk>(
     alloc: Global,
     disk: &mut D,

@@ -5,8 +5,8 @@ ghost use Rattle.ck_volume.specs.Keeping.{frozen_values, IsCounted, IsKept, Shar
 use crate::{Frozen, ValueMap};
 use ck_model::{Counters, Limits, Mounts};
 
-/// The files in memory: what the keys hold now, at most one frozen checkpoint, and what the data blocks and records
-/// come to. Blocks are named by their numbers; their bytes stand on the device.
+/// The files in memory: what the keys hold now, at most one frozen checkpoint, and what the data
+/// blocks and records come to. Blocks are named by their numbers; their bytes stand on the device.
 #[derive(Drop)]
 pub struct Table {
     pub limits: Limits,

@@ -112,7 +112,8 @@ impl ValueMap {
         self.get(key).is_some()
     }
 
-    /// Puts entries over those that stand; of two at one key the first counts. A refusal changes nothing.
+    /// Puts entries over those that stand; of two at one key the first counts. A refusal changes
+    /// nothing.
     pub fn put_all(&mut self, puts: &[(Key, Held)]) -> Result<(), NoMemory>
         ensures ok { OnOk result (self.new ≡ with_values self.old puts.now) }
         ensures err { OnErr result (self.new ≡ self.old) }

@@ -1,7 +1,8 @@
 use crate::{DataArea, Table};
 
-/// A volume over a device: its table in memory, and its data blocks on the device. Once a write of it has failed it
-/// is broken: it answers every further call so, and makes no call of the device any more.
+/// A volume over a device: its table in memory, and its data blocks on the device. Once a write of
+/// it has failed it is broken: it answers every further call so, and makes no call of the device
+/// any more.
 #[derive(Drop)]
 pub struct Volume<D> {
     pub table: Table,

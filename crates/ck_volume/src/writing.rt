@@ -39,7 +39,8 @@ fn block_puts(
     Ok(puts)
 }
 
-/// Writes bytes within the first block of a file. The new block is stored first, in a data block that nothing names.
+/// Writes bytes within the first block of a file. The new block is stored first, in a data block
+/// that nothing names.
 fn write_block<D: Disk>(
     alloc: Global,
     table: &mut Table,
