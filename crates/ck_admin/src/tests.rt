@@ -395,3 +395,20 @@ fn has_one_checkpoint(rt: HostRuntime) -> Result<(), Fail> {
     assert!(rt; ended.has(printed, b""));
     Ok(())
 }
+
+// As many calls as a script may have, and one more.
+#[test]
+fn plays_the_longest_script(rt: HostRuntime) -> Result<(), Fail> {
+    let longest = [("make /f", 65536, "")];
+    let longest_end = b"
+1.65535 100 0 make /f65534 = NoSpace records 255 2 256
+1.65536 100 0 make /f65535 = NoSpace records 255 2 256
+";
+    assert!(rt; ends_with(rt.alloc(), &longest, longest_end)?);
+
+    let mut longer = Vec::new(rt.alloc());
+    add_lines(rt.alloc(), &mut longer, "make /f", 65537, "")?;
+    let refused = play_on(rt.alloc(), &longer, &[], device(rt.alloc(), &[])?)?;
+    assert!(rt; matches!(refused.status, Status::BadScript(65537)));
+    Ok(())
+}
