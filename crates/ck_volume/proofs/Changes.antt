@@ -1,19 +1,18 @@
 -- What a call that puts values comes to in the world of a table.
-use Rattle.std.proofs.Common.{◌≡◌, ℕ, ◌+◌, ◌-◌, ◌&&◌, Bool, true, false, Option, Some, None, List, [], ◌∷◌, Ok, if◌then◌else◌, nat_le, refl, sym, ap, ◌∙◌, arith}
+use Rattle.std.proofs.Common.{◌≡◌, ℕ, ◌+◌, ◌-◌, ◌&&◌, true, false, List, [], ◌∷◌, Ok, if◌then◌else◌, nat_le, sym, ap, ◌∙◌, arith}
 use Rattle.std.specs.Option.{ForSome, option_map_or}
 use Rattle.ck_model.specs.declared.key.Key.{Key}
 use Rattle.ck_model.specs.declared.held.Held.{Held}
-use Rattle.ck_model.specs.declared.reply.Reply.{Reply}
 use Rattle.ck_model.specs.declared.reply.Reply.TheVariants.{Done, NoSpace}
 use Rattle.ck_model.specs.declared.reply.SpaceOf.TheVariants.{Blocks, Records}
 use Rattle.ck_model.specs.Cells.{with_cells}
 use Rattle.ck_model.specs.World.{World}
 use Rattle.ck_model.specs.Space.{held, records_in, fits, no_space, new_block_count}
-use Rattle.ck_model.specs.Step.{Outcome, changing}
+use Rattle.ck_model.specs.Step.{changing}
 use Rattle.ck_volume.specs.declared.table.Table.{Table}
-use Rattle.ck_volume.specs.Values.{Store, cells_of, cells_on, with_values, StampsBelow, Apart, AllStamped}
+use Rattle.ck_volume.specs.Values.{Store, cells_of, cells_on, StampsBelow, Apart, AllStamped}
 use Rattle.ck_volume.specs.Growth.{record_growths, new_blocks}
-use Rattle.ck_volume.specs.Keeping.{frozen_values, frozen_on}
+use Rattle.ck_volume.specs.Keeping.{frozen_values}
 use Rattle.ck_volume.specs.Standing.{checkpoint_on, world_on}
 use Rattle.ck_volume.specs.Putting.{HasPut}
 use Rattle.ck_volume.specs.Room.{has_room, lack_of_room, answered_with}

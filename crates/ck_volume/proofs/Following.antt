@@ -1,6 +1,6 @@
 -- Where a history stands once a call was answered.
-use Rattle.std.proofs.Common.{◌≡◌, ℕ, ◌+◌, ◌≤◌, Bool, true, false, Option, Some, None, IsSomeAnd, MatchOption, MatchBool, if◌then◌else◌, refl, sym, ap, subst, ◌∙◌, arith}
-use Rattle.std.specs.Option.{option_map_or, option_or}
+use Rattle.std.proofs.Common.{◌≡◌, ℕ, ◌+◌, ◌≤◌, true, false, Some, None, IsSomeAnd, MatchBool, if◌then◌else◌, refl, sym, ap, subst, ◌∙◌, arith}
+use Rattle.std.specs.Option.{option_map_or}
 use Rattle.ck_model.specs.declared.call.Call.{Call}
 use Rattle.ck_model.specs.declared.entry.Entry.{Entry}
 use Rattle.ck_model.specs.declared.reply.Reply.{Reply}
@@ -9,7 +9,7 @@ use Rattle.ck_model.specs.World.{World}
 use Rattle.ck_model.specs.Streams.{Texts}
 use Rattle.ck_model.specs.Step.{Outcome, step}
 use Rattle.ck_model.specs.Space.{without_picks}
-use Rattle.ck_model.specs.History.{Past, CallsBy, IsLegalAt, IsLegalWhole, IsLegalNext, IsRefusal, IsStepOf, past_after, world_after, is_fault, is_write_fault, is_broken}
+use Rattle.ck_model.specs.History.{CallsBy, IsLegalAt, IsLegalWhole, IsRefusal, IsStepOf, world_after, is_fault, is_write_fault, is_broken}
 use Rattle.ck_volume.specs.Room.{answered_with}
 use Rattle.ck_volume.specs.Volume.{Answers, Follows}
 

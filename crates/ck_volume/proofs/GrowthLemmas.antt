@@ -1,17 +1,16 @@
 -- What a put with a new stamp adds to the blocks and records that are held.
-use Rattle.std.proofs.Common.{◌≡◌, ℕ, suc, ◌+◌, ◌<◌, ◌≤◌, ◌&&◌, Bool, true, false, cond, not, Option, Some, None, is_some, List, [], ◌∷◌, MatchOption, if◌then◌else◌, nat_eq, refl, sym, ap, subst, ◌∙◌, arith, map as list_map}
+use Rattle.std.proofs.Common.{◌≡◌, ℕ, ◌+◌, ◌&&◌, Bool, true, false, cond, not, Option, Some, None, is_some, MatchOption, if◌then◌else◌, nat_eq, refl, sym, ap, subst, ◌∙◌, arith}
 use Rattle.std.specs.Prelude.{⊤}
 use Rattle.std.specs.Ordering.{eq_by_cmp}
-use Rattle.std.specs.Option.{option_map, option_map_or, option_or}
+use Rattle.std.specs.Option.{option_map_or}
 use Rattle.std.specs.FinMap as map
-use Rattle.std.specs.FinMap.{find}
 use Rattle.std.proofs.lemmas.Bool.Decides.{nat_tests}
 use Rattle.ck_model.specs.declared.key.Key.{Key}
 use Rattle.ck_model.specs.declared.cell.Cell.{Cell}
 use Rattle.ck_model.specs.Key.{key_cmp, key_cmp_total, key_cmp_exact, is_block}
-use Rattle.ck_model.specs.Cells.{Cells, differs, differences, with_cells}
+use Rattle.ck_model.specs.Cells.{Cells, differs, differences}
 use Rattle.ck_model.specs.Space.{block_count, own_block_count, new_block_count, is_new_block}
-use Rattle.ck_model.proofs.CellsLemmas.{get-differences, contains_key-differences, get-retain_keys, get-with_cells, tied-is}
+use Rattle.ck_model.proofs.CellsLemmas.{get-differences, contains_key-differences, get-retain_keys, tied-is}
 use Rattle.ck_volume.specs.Growth.{blocks_held, records_held}
 
 -- a put at this key with a stamp that the frozen map doesn't have there

@@ -1,5 +1,5 @@
 -- The values that a new file puts.
-use Rattle.std.proofs.Common.{◌≡◌, ℕ, ◌+◌, Bool, true, false, cond, None, Some, List, [], ◌∷◌, Ok, Err, Result, if◌then◌else◌, refl, ap, subst, ◌∙◌, arith, length, ◌-◌, take}
+use Rattle.std.proofs.Common.{◌≡◌, ℕ, Bool, true, false, cond, None, Some, List, [], ◌∷◌, Ok, Err, Result, if◌then◌else◌, refl, ap, subst, arith, length, ◌-◌, take}
 use Rattle.std.specs.Ordering.{eq_by_cmp}
 use Rattle.std.specs.List.{slice_index_or}
 use Rattle.std.specs.FinMap as map

@@ -1,7 +1,5 @@
 -- Values put over a map, as cells, and what they add to the blocks and records that are held.
-use Rattle.std.proofs.Common.{◌≡◌, ℕ, ◌+◌, ◌<◌, Bool, true, false, cond, not, ◌&&◌, IfSome, Option, Some, None, is_some, List, [], ◌∷◌, MatchOption, if◌then◌else◌, nat_eq, refl, sym, ap, subst, ◌∙◌, arith}
-use Rattle.std.specs.Prelude.{⊤}
-use Rattle.std.specs.Ordering.{eq_by_cmp}
+use Rattle.std.proofs.Common.{◌≡◌, ℕ, ◌+◌, ◌<◌, Bool, true, false, cond, not, ◌&&◌, IfSome, Option, Some, None, is_some, List, [], ◌∷◌, if◌then◌else◌, nat_eq, refl, sym, ap, subst, ◌∙◌, arith}
 use Rattle.std.specs.Option.{option_map, option_map_or, option_or, ForSome}
 use Rattle.std.specs.FinMap as map
 use Rattle.std.specs.FinMap.{find}

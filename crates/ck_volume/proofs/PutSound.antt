@@ -1,8 +1,8 @@
 -- What a table keeps holds when values are put.
-use Rattle.std.proofs.Common.{◌≡◌, ℕ, ◌+◌, ◌<◌, ◌≤◌, Bool, true, false, cond, not, Option, Some, None, List, [], ◌∷◌, nat_eq, refl, sym, ap, subst, ◌∙◌, arith}
+use Rattle.std.proofs.Common.{◌≡◌, ℕ, ◌+◌, ◌<◌, ◌≤◌, true, false, cond, Option, Some, None, List, [], ◌∷◌, refl, sym, ap, subst, ◌∙◌, arith}
 use Rattle.std.specs.Prelude.{⊤}
 use Rattle.std.specs.Ordering.{eq_by_cmp}
-use Rattle.std.specs.Option.{option_map, ForSome}
+use Rattle.std.specs.Option.{ForSome}
 use Rattle.std.specs.FinMap as map
 use Rattle.std.proofs.lemmas.Bool.Decides.{nat_tests}
 use Rattle.ck_model.specs.declared.key.Key.{Key}
@@ -11,7 +11,7 @@ use Rattle.ck_model.specs.declared.checkpoint.Counters.{Counters}
 use Rattle.ck_model.specs.declared.checkpoint.Limits.{Limits}
 use Rattle.ck_model.specs.Key.{key_cmp, is_block}
 use Rattle.ck_model.proofs.CellsLemmas.{tied-is}
-use Rattle.ck_volume.specs.Values.{Store, Values, cells_on, stamp_of, block_of, values_differ, with_values, StampsBelow, BlocksBelow, AtBlocks, IsShared, Apart, AllStamped, PlacedBelow}
+use Rattle.ck_volume.specs.Values.{Values, stamp_of, block_of, values_differ, with_values, StampsBelow, IsShared, Apart, AllStamped, PlacedBelow}
 use Rattle.ck_volume.specs.Growth.{blocks_held, records_held, record_growths, block_growths}
 use Rattle.ck_volume.specs.Keeping.{frozen_on, IsCounted, IsKept, SharesWith}
 use Rattle.ck_volume.proofs.GrowthLemmas.{get-put}

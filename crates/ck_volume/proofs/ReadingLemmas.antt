@@ -13,7 +13,7 @@ use Rattle.ck_model.specs.declared.held.Held.TheVariants.{Absent, Plain, Extent,
 use Rattle.ck_model.specs.declared.held.Small.TheVariants as small
 use Rattle.ck_model.specs.Cells.{content_at, bytes_in}
 use Rattle.ck_model.specs.Reading.{file_byte}
-use Rattle.ck_volume.specs.Values.{Store, Values, block_of, cells_on, BlocksBelow}
+use Rattle.ck_volume.specs.Values.{Store, Values, block_of, cells_on}
 use Rattle.ck_volume.specs.Device.{store_on}
 use Rattle.ck_volume.specs.Reading.{bytes_of, part_of, IsFilled, OnlyReads}
 use Rattle.ck_volume.proofs.Walking.{content_on, content-cells_on}
@@ -45,9 +45,6 @@ step_after old mid new law within first second = record {
   keeps = λ t c le left. second.keeps t c (omega (arith, le, first.later)) (first.keeps t c le left);
 }
 
-pub reads_none : (m : Meaning) → OnlyReads m m
-reads_none m = record { shows = refl; crash = λ c left. left; marks = λ k clean. clean; step = step_itself m }
-
 pub reads_on : (old mid new : Meaning) → Lawful old → OnlyReads old mid → OnlyReads mid new → OnlyReads old new
 reads_on old mid new law first second = record {
   shows = second.shows ∙ first.shows;
@@ -55,14 +52,6 @@ reads_on old mid new law first second = record {
   marks = λ k clean. second.marks k (first.marks k clean);
   step = step_after old mid new law first.crash first.step second.step;
 }
-
--- the data block that is named stands
-pub named_below : (limit : ℕ) (values : Values) (key : Key) → BlocksBelow limit values → (block : ℕ) → option_and_then block_of (map.get values key) ≡ Some block → block < limit
-named_below limit values key below block is = at (map.get values key) refl is
-  where
-    at : (o : Option Held) → map.get values key ≡ o → option_and_then block_of o ≡ Some block → block < limit
-    at None e h = cc
-    at (Some held) e h = below key held block e h
 
 -- the bytes of a cell
 pub bytes-cells_on : (store : Store) (values : Values) (key : Key) → bytes_in (content_at (cells_on store values) key) ≡ bytes_of store (option_and_then block_of (map.get values key))

@@ -1,18 +1,15 @@
 -- The world that a table stands for: what it holds, and what a call comes to in it.
-use Rattle.std.proofs.Common.{◌≡◌, ℕ, zero, suc, ◌+◌, ◌≤◌, ◌-◌, ◌&&◌, Bool, true, false, Option, Some, None, List, [], ◌∷◌, length, Result, Ok, Err, if◌then◌else◌, nat_le, refl, sym, ap, ◌∙◌, arith}
-use Rattle.std.specs.Option.{option_map, option_map_or}
+use Rattle.std.proofs.Common.{◌≡◌, ℕ, zero, suc, ◌+◌, Bool, true, false, Option, Some, None, [], ◌∷◌, length, if◌then◌else◌, refl, ap, ◌∙◌, arith}
+use Rattle.std.specs.Option.{option_map_or}
 use Rattle.ck_model.specs.declared.reply.Reply.{Reply}
-use Rattle.ck_model.specs.declared.reply.Reply.TheVariants.{Done, NoSpace}
-use Rattle.ck_model.specs.declared.reply.SpaceOf.TheVariants.{Blocks, Records}
 use Rattle.ck_model.specs.World.{World, without_checkpoint}
-use Rattle.ck_model.specs.Space.{held, records_in, pick, fits, blocks_fit, given_up, without_picks, no_space, new_block_count}
-use Rattle.ck_model.specs.Step.{Outcome, with_room, changing}
+use Rattle.ck_model.specs.Space.{held, records_in, pick, fits, given_up, without_picks, no_space}
+use Rattle.ck_model.specs.Step.{Outcome, with_room}
 use Rattle.ck_volume.specs.declared.frozen.Frozen.{Frozen}
-use Rattle.ck_volume.specs.declared.table.Table.{Table}
-use Rattle.ck_volume.specs.Values.{Store, cells_on}
+use Rattle.ck_volume.specs.Values.{Store}
 use Rattle.ck_volume.specs.Growth.{blocks_held, records_held}
 use Rattle.ck_volume.specs.Keeping.{frozen_values, frozen_on}
-use Rattle.ck_volume.specs.Standing.{checkpoint_on, world_on}
+use Rattle.ck_volume.specs.Standing.{checkpoint_on}
 
 -- a world with at most one checkpoint, which is a data one and not removable
 abbrev pub with_frozen : World → Store → Option Frozen → World

@@ -1,5 +1,5 @@
 -- What a write within the first block of a file makes of a world.
-use Rattle.std.proofs.Common.{◌≡◌, ◌≢◌, ℕ, ◌+◌, ◌-◌, ◌*◌, ◌/◌, ◌<◌, ◌≤◌, ◌&&◌, Bool, true, false, cond, Option, Some, None, is_some, not, Result, Ok, Err, OnErr, List, [], ◌∷◌, length, map as list_map, if◌then◌else◌, nat_eq, nat_le, nat_lt, slice_index, refl, sym, ap, subst, ◌∙◌, arith}
+use Rattle.std.proofs.Common.{◌≡◌, ◌≢◌, ℕ, ◌+◌, ◌-◌, ◌*◌, ◌/◌, ◌<◌, ◌≤◌, ◌&&◌, Bool, true, false, Option, Some, None, is_some, not, Result, Ok, Err, OnErr, List, [], ◌∷◌, length, map as list_map, if◌then◌else◌, nat_eq, nat_le, nat_lt, slice_index, refl, sym, ap, subst, ◌∙◌, arith}
 use Rattle.std.specs.List.{range_with_len}
 use Rattle.std.specs.Option.{option_map, option_and_then, option_map_or, ForSome}
 use Rattle.std.specs.FinMap as map
@@ -9,12 +9,10 @@ use Rattle.ck_model.specs.declared.key.Key.TheVariants.{Node, Block}
 use Rattle.ck_model.specs.declared.held.Held.{Held}
 use Rattle.ck_model.specs.declared.held.Held.TheVariants.{Absent, Plain, Extent, Mark}
 use Rattle.ck_model.specs.declared.held.Small.TheVariants as small
-use Rattle.ck_model.specs.declared.cell.Cell.{Cell}
 use Rattle.ck_model.specs.declared.cell.Payload.TheVariants.{Bytes, File}
-use Rattle.ck_model.specs.Key.{key_cmp, key_cmp_total, key_cmp_exact}
-use Rattle.ck_model.specs.Cells.{Cells, with_cells, content_at, bytes_in, size_at}
-use Rattle.ck_model.specs.Reading.{block_byte}
-use Rattle.ck_model.specs.Changes.{cell_of, touched, byte_after, block_after, grown_to, written}
+use Rattle.ck_model.specs.Key.{key_cmp_total, key_cmp_exact}
+use Rattle.ck_model.specs.Cells.{Cells, with_cells, size_at}
+use Rattle.ck_model.specs.Changes.{cell_of, touched, block_after, grown_to, written}
 use Rattle.ck_model.specs.Changing.{with_primary}
 use Rattle.ck_model.specs.declared.checkpoint.Counters.{Counters}
 use Rattle.ck_model.specs.declared.checkpoint.Limits.{Limits}

@@ -1,5 +1,5 @@
 -- How a device is opened.
-use Rattle.std.specs.Prelude.{◌≡◌, ◌+◌, ◌<◌, ℕ, None, Option}
+use Rattle.std.specs.Prelude.{◌≡◌, ◌<◌, ℕ, None}
 use Rattle.ck_disk.specs.Disk.{Image, Meaning}
 use Rattle.ck_model.specs.World.{World, empty_world}
 use Rattle.ck_volume.specs.declared.open.OpenFault.{OpenFault}

@@ -1,13 +1,6 @@
-use Rattle.std.proofs.Common.{◌≡◌, false, IsTrue, sym, ap, ◌∙◌, rules}
-use Rattle.ck_model.specs.declared.call.Call.{Call}
-use Rattle.ck_model.specs.declared.call.Call.TheVariants.{Make, Create, Mount, Cread}
-use Rattle.ck_model.specs.declared.reply.Reply.{Reply}
-use Rattle.ck_model.specs.Streams.{Texts}
-use Rattle.ck_model.specs.Step.{step}
-use Rattle.ck_volume.specs.Values.{Store}
-use Rattle.ck_volume.specs.Device.{store_on}
+use Rattle.std.proofs.Common.{false}
+use Rattle.ck_model.specs.declared.call.Call.TheVariants.{Make, Create, Mount}
 use Rattle.ck_volume.specs.Standing.{world_on}
-use Rattle.ck_volume.specs.Room.{answered_with}
 use Rattle.ck_volume.proofs.Ordinary.{no_store, stepped-ordinary}
 use Rattle.ck_volume.proofs.attempt.attempt.Goals as goal
 

@@ -1,4 +1,4 @@
-use Rattle.std.proofs.Common.{◌≡◌, ◌+◌, ◌<◌, [], length, get_or, sym, ap, subst, ◌∙◌, arith, IsTrue}
+use Rattle.std.proofs.Common.{◌+◌, ◌<◌, [], length, get_or, sym, ap, subst, ◌∙◌, arith, IsTrue}
 use Rattle.std.proofs.lemmas.List.{get_or-set_same}
 use Rattle.ck_volume.specs.Device.{store_on}
 use Rattle.ck_volume.specs.Reading.{bytes_of}

@@ -1,10 +1,8 @@
-use Rattle.std.proofs.Common.{◌≡◌, ◌+◌, ◌<◌, ◌≤◌, ℕ, true, List, IsTrue, length, refl, sym, ap, subst, ◌∙◌, arith, rules}
+use Rattle.std.proofs.Common.{◌≡◌, ◌+◌, true, IsTrue, length, refl, sym, ap, ◌∙◌, arith, rules}
 use Rattle.std.specs.Option.{option_and_then}
 use Rattle.std.specs.FinMap as map
-use Rattle.ck_model.specs.declared.key.Key.{Key}
-use Rattle.ck_model.specs.declared.held.Held.{Held}
 use Rattle.ck_model.specs.declared.key.Key.TheVariants.{Block}
-use Rattle.ck_volume.specs.Values.{block_of, with_values, Apart, AllStamped, PlacedBelow}
+use Rattle.ck_volume.specs.Values.{block_of, with_values}
 use Rattle.ck_volume.specs.Growth.{record_growths, block_growths}
 use Rattle.ck_volume.specs.Keeping.{frozen_values}
 use Rattle.ck_volume.specs.Standing.{world_on}
@@ -12,7 +10,6 @@ use Rattle.ck_volume.specs.Room.{has_room, answered_with}
 use Rattle.ck_volume.specs.Device.{store_on}
 use Rattle.ck_volume.specs.Reading.{bytes_of}
 use Rattle.ck_volume.specs.Writing.{block_puts, patched}
-use Rattle.ck_volume.specs.Naming.{IsUnused}
 use Rattle.ck_volume.proofs.WriteLemmas.{unnamed, world_on-unnamed, on_err, HasRoom, room-facts, one_held, block_puts-apart, block_puts-stamped, block_puts-placed, write-fits, write-full}
 use Rattle.ck_volume.proofs.writing.write_block.Goals as goal
 

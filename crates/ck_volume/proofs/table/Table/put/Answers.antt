@@ -1,9 +1,9 @@
-use Rattle.std.proofs.Common.{◌≡◌, ◌≤◌, ◌+◌, ℕ, subst, sym, ap, arith}
+use Rattle.std.proofs.Common.{◌≡◌, ◌+◌, arith}
 use Rattle.ck_model.specs.declared.checkpoint.Counters.{Counters}
 use Rattle.std.specs.Option.{ForSome}
-use Rattle.ck_volume.specs.Values.{Values, with_values, StampsBelow}
+use Rattle.ck_volume.specs.Values.{with_values, StampsBelow}
 use Rattle.ck_volume.specs.Growth.{record_growths, block_growths}
-use Rattle.ck_volume.specs.Keeping.{frozen_values, IsCounted, IsKept, SharesWith}
+use Rattle.ck_volume.specs.Keeping.{frozen_values}
 use Rattle.ck_volume.proofs.PutSound.{kept-puts, kept-later, shares-puts, counted-puts}
 use Rattle.ck_volume.proofs.table.Table.put.Goals as goal
 
