@@ -1,5 +1,5 @@
 -- The calls of a script that is accepted are built.
-use Rattle.std.proofs.Common.{◌≡◌, ℕ, ◌+◌, ◌≤◌, Bool, true, false, cond, List, [], ◌∷◌, ◌++◌, length, Option, Some, None, Result, Ok, Err, codes, nat_eq, nat_le, refl, subst, sym, arith}
+use Rattle.std.proofs.Common.{◌≡◌, ℕ, ◌+◌, ◌≤◌, Bool, true, false, cond, List, [], ◌∷◌, ◌++◌, length, Option, Some, None, Ok, Err, codes, nat_eq, nat_le, refl, subst, arith}
 use Rattle.std.specs.Prelude.{◌&&◌, map as list_map}
 use Rattle.std.specs.List.{sum_by}
 use Rattle.std.specs.List.{AllByRecursion}

@@ -1,8 +1,8 @@
 -- A play, one entry after another.
-use Rattle.std.proofs.Common.{◌≡◌, ℕ, zero, suc, ◌+◌, ◌<◌, ◌≤◌, Bool, true, false, cond, ◌||◌, ◌⊎◌, inl, inr, None, Some, is_some, Option, IsTrue, MatchOption, List, [], ◌∷◌, ◌++◌, length, take, drop, get_or, nat_eq, nat_le, if◌then◌else◌, refl, sym, ap, ◌∙◌, subst, arith, add-zero, drop-cons, length-append}
+use Rattle.std.proofs.Common.{◌≡◌, ℕ, zero, suc, ◌+◌, ◌<◌, ◌≤◌, Bool, true, false, cond, ◌||◌, ◌⊎◌, inl, inr, None, Some, is_some, Option, IsTrue, MatchOption, List, [], ◌∷◌, ◌++◌, length, take, drop, get_or, nat_eq, if◌then◌else◌, refl, sym, ap, ◌∙◌, subst, arith, add-zero, drop-cons, length-append}
 use Rattle.std.specs.Prelude.{◌-◌, ◌^◌, min, slice_get, map as list_map}
 use Rattle.std.specs.List.{filter_map, cons_option, range_with_len, AllByRecursion}
-use Rattle.std.specs.Option.{option_map_or, option_or}
+use Rattle.std.specs.Option.{option_or}
 use Rattle.std.proofs.lemmas.List.{take-append-drop, map-append, take_all}
 use Rattle.std.proofs.Math.Seq.{take-suc}
 use Rattle.std.proofs.lemmas.List.Elements.{filter_map-append}
@@ -10,12 +10,9 @@ use Rattle.std.proofs.lemmas.Bool.Decides.{nat_tests}
 use Rattle.ck_model.specs.declared.call.Call.{Call}
 use Rattle.ck_model.specs.declared.entry.Entry.{Entry}
 use Rattle.ck_model.specs.declared.reply.Reply.{Reply}
-use Rattle.ck_model.specs.World.{World}
 use Rattle.ck_model.specs.Streams.{Texts}
-use Rattle.ck_model.specs.History.{Past, CallsBy, begun, past_of, past_after, world_after, IsLegal, IsLegalFrom, IsLegalNext, IsLegalWhole, IsRefusal, IsOfScript, IsStepOf, is_fault, call_at, calls_of, numbers_of, reply_number, is_write_fault, is_broken}
-use Rattle.ck_model.specs.Step.{Outcome, step}
-use Rattle.ck_model.proofs.StepLemmas.{step-sound}
-use Rattle.ck_model.proofs.HistoryLemmas.{past_of-append, IsLegalFrom-append, IsStepOf-legal, world_after-step}
+use Rattle.ck_model.specs.History.{Past, CallsBy, begun, past_of, past_after, IsLegal, IsLegalFrom, IsOfScript, call_at, calls_of, numbers_of, is_write_fault, is_broken}
+use Rattle.ck_model.proofs.HistoryLemmas.{past_of-append, IsLegalFrom-append}
 use Rattle.ck_script.specs.declared.line.Line.{Line}
 use Rattle.ck_script.specs.Numbered.{calls_in, numbers_in, IsNumbered}
 use Rattle.ck_io.specs.Clock.{ClockMeaning}

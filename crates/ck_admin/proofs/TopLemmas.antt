@@ -1,6 +1,6 @@
 -- What is printed of a play.
-use Rattle.std.proofs.Common.{◌≡◌, ◌≤◌, ◌+◌, ◌-◌, ◌^◌, Bool, true, false, ℕ, IsTrue, List, [], ◌∷◌, Result, Ok, Err, MatchResult, OnOk, IfErr, ◌⊎◌, inl, inr, refl, sym, ap, subst, ◌∙◌, arith, if◌then◌else◌}
-use Rattle.std.specs.Prelude.{◌||◌, ◌++◌, min, map as list_map}
+use Rattle.std.proofs.Common.{◌≡◌, ◌≤◌, ◌+◌, Bool, true, false, ℕ, IsTrue, List, [], ◌∷◌, Result, Ok, Err, OnOk, IfErr, inl, inr, refl, subst, arith, if◌then◌else◌}
+use Rattle.std.specs.Prelude.{◌||◌, map as list_map}
 use Rattle.std.specs.List.{AllByRecursion}
 use Rattle.ck_disk.specs.Disk.{Meaning, Rose}
 use Rattle.ck_model.specs.declared.call.Call.{Call}
@@ -18,7 +18,7 @@ use Rattle.ck_io.specs.Source.{SourceMeaning}
 use Rattle.ck_volume.specs.Opening.{device_blocks}
 use Rattle.ck_admin.specs.Play.{IsPlay, HasCauses, replies_of, lost_a_write}
 use Rattle.ck_admin.specs.Statuses.{IsPrintFault, play_status}
-use Rattle.ck_admin.specs.Top.{by_one, PrintsPlay, Gains, GainsFront, GainsNothing, GainsAllOrNothing, EndsPlay, leaves_device}
+use Rattle.ck_admin.specs.Top.{by_one, PrintsPlay, Gains, GainsFront, GainsAllOrNothing, EndsPlay, leaves_device}
 
 abbrev pub calls_alone : List Line → List Call
 calls_alone lines = list_map (λ line. line.call) lines

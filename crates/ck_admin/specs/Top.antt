@@ -1,5 +1,5 @@
 -- What the top call promises.
-use Rattle.std.specs.Prelude.{◌≡◌, ◌≤◌, ◌<◌, ◌++◌, ◌⊎◌, ℕ, Bool, true, false, nat_eq, List, [], ◌∷◌, IsTrue, Result, Ok, Err, codes, map as list_map}
+use Rattle.std.specs.Prelude.{◌≡◌, ◌≤◌, ◌<◌, ◌++◌, ◌⊎◌, ℕ, Bool, true, false, nat_eq, List, [], ◌∷◌, IsTrue, Ok, Err, codes, map as list_map}
 use Rattle.std.specs.Cmp.Lexicographic.{pointwise}
 use Rattle.ck_disk.specs.Disk.{Meaning, Rose}
 use Rattle.ck_model.specs.declared.call.Call.{Call}

@@ -1,4 +1,4 @@
-use Rattle.std.proofs.Common.{subst, rules}
+use Rattle.std.proofs.Common.{subst}
 use Rattle.ck_admin.specs.Top.{EndsPlay}
 use Rattle.ck_admin.proofs.command.play_script.Goals as goal
 

@@ -1,4 +1,4 @@
-use Rattle.std.proofs.Common.{◌≡◌, List, sym, ap, subst, ◌∙◌}
+use Rattle.std.proofs.Common.{◌≡◌, sym, ap, subst, ◌∙◌}
 use Rattle.ck_disk.specs.Disk.{Meaning}
 use Rattle.ck_model.specs.History.{call_at}
 use Rattle.ck_report.specs.declared.status.Status.{Status}

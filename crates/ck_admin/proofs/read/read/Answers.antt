@@ -1,4 +1,4 @@
-use Rattle.std.proofs.Common.{◌≡◌, ◌≤◌, length, sym, ap, subst, ◌∙◌}
+use Rattle.std.proofs.Common.{◌≤◌, subst}
 use Rattle.std.proofs.lemmas.List.{length-map}
 use Rattle.ck_admin.proofs.BuiltLemmas.{script_built, script_few, lines_built}
 use Rattle.ck_admin.proofs.TopLemmas.{calls_alone}
