@@ -1,11 +1,13 @@
 -- What the entries of a table may hold at which keys.
 use Rattle.std.specs.Prelude.{ℕ, ◌<◌, ◌≤◌, ◌^◌, ⊤}
+use Rattle.ck_model.specs.declared.checkpoint.Counters.{Counters}
+use Rattle.ck_model.specs.declared.checkpoint.Fileset.{Fileset}
 use Rattle.ck_model.specs.declared.key.Key.{Key}
 use Rattle.ck_model.specs.declared.key.Key.TheVariants.{Name, Node, Block}
 use Rattle.ck_model.specs.declared.held.Held.{Held}
 use Rattle.ck_model.specs.declared.held.Held.TheVariants.{Absent, Plain, Extent, Mark}
 use Rattle.ck_model.specs.declared.held.Small.TheVariants.{To, File, Dir}
-use Rattle.ck_model.specs.Name.{IsFileName}
+use Rattle.ck_model.specs.Name.{IsFileName, IsCheckpointName}
 
 abbrev pub IsWord : ℕ → Type 0
 IsWord number = number < 2 ^ 32
@@ -37,3 +39,19 @@ BelongsTo _ _ = ⊥
 pub record IsEntry (key : Key) (held : Held) : Type 0 where
   pub place : IsKey key
   pub value : BelongsTo key held
+
+-- the numbers that are given next; stamp 2 ^ 63 is never given
+pub record IsCounters (counters : Counters) : Type 0 where
+  pub some_stamp : 1 ≤ counters.stamp
+  pub stamp : counters.stamp ≤ 2 ^ 63
+  pub some_id : 1 ≤ counters.id
+  pub id : IsWord counters.id
+  pub some_number : 1 ≤ counters.number
+  pub number : IsWord counters.number
+
+-- a checkpoint under its id; 0 stands for the primary
+pub record IsFileset (id : ℕ) (fileset : Fileset) : Type 0 where
+  pub some : 1 ≤ id
+  pub word : IsWord id
+  pub name : IsCheckpointName fileset.name
+  pub ctime : fileset.ctime < 2 ^ 64

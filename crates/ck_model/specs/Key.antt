@@ -37,6 +37,23 @@ key_cmp_total = on_total spelled nat_list_cmp_total
 pub key_cmp_exact : IsAntisymmetric key_cmp
 key_cmp_exact x y h = spelled_alike x y (slice_cmp-IsAntisymmetric nat_cmp-IsAntisymmetric (spelled x) (spelled y) h)
 
+-- a fileset's number and a key, as a list of numbers
+abbrev pub entry_spelled : ℕ × Key → List ℕ
+entry_spelled entry = entry.0 ∷ spelled entry.1
+
+-- the order of a table's entries: by their filesets, and then by their keys
+abbrev pub entry_cmp : ℕ × Key → ℕ × Key → Ordering
+entry_cmp = on entry_spelled (slice_cmp nat_cmp)
+
+pub entry_cmp_total : IsTotalOrder entry_cmp
+entry_cmp_total = on_total entry_spelled nat_list_cmp_total
+
+same_entry : {x y : ℕ × Key} → x.0 ∷ spelled x.1 ≡ y.0 ∷ spelled y.1 → x ≡ y
+same_entry {x} {y} h = let first : x.0 ≡ y.0 = cc in let second : spelled x.1 ≡ spelled y.1 = cc in λ i. (first i, spelled_alike x.1 y.1 second i)
+
+pub entry_cmp_exact : IsAntisymmetric entry_cmp
+entry_cmp_exact x y h = same_entry (slice_cmp-IsAntisymmetric nat_cmp-IsAntisymmetric (x.0 ∷ spelled x.1) (y.0 ∷ spelled y.1) h)
+
 abbrev pub is_block : Key → Bool
 is_block (Name directory name) = false
 is_block (Node number) = false

@@ -10,6 +10,9 @@ pub mod Reading
 pub mod Changes
 pub mod World
 pub mod Space
+pub mod Table
+pub mod Chain
+pub mod Rules
 pub mod Streams
 pub mod Changing
 pub mod Freezing

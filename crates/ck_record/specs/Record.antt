@@ -1,5 +1,5 @@
 -- The records of a table, their limits, and the one spelling that each of them has.
-use Rattle.std.specs.Prelude.{ℕ, ◌^◌, ◌<◌, ◌≤◌, ◌+◌, ⊤, List, Some, None, if◌then◌else◌}
+use Rattle.std.specs.Prelude.{ℕ, ◌+◌, ⊤, List, Some, None, if◌then◌else◌}
 use Rattle.ck_model.specs.declared.checkpoint.Counters.{Counters}
 use Rattle.ck_model.specs.declared.checkpoint.Fileset.{Fileset}
 use Rattle.ck_model.specs.declared.checkpoint.Kind.{Kind}
@@ -10,30 +10,13 @@ use Rattle.ck_model.specs.declared.held.Held.{Held}
 use Rattle.ck_model.specs.declared.held.Held.TheVariants.{Absent, Plain, Extent, Mark}
 use Rattle.ck_model.specs.declared.held.Small.{Small}
 use Rattle.ck_model.specs.declared.held.Small.TheVariants.{To, File, Dir}
-use Rattle.ck_model.specs.Held.{IsWord, IsEntry}
-use Rattle.ck_model.specs.Name.{IsCheckpointName}
+use Rattle.ck_model.specs.Held.{IsWord, IsEntry, IsCounters, IsFileset}
 use Rattle.ck_record.specs.declared.records.Record.{Record}
 use Rattle.ck_record.specs.declared.records.Record.TheVariants as record_of
 use Rattle.ck_record.specs.declared.fields.Fields.{Fields}
 use Rattle.ck_record.specs.Fields.{spelled}
 
 -- ---- the limits
-
--- the numbers that are given next; stamp 2 ^ 63 is never given
-pub record IsCounters (counters : Counters) : Type 0 where
-  pub some_stamp : 1 ≤ counters.stamp
-  pub stamp : counters.stamp ≤ 2 ^ 63
-  pub some_id : 1 ≤ counters.id
-  pub id : IsWord counters.id
-  pub some_number : 1 ≤ counters.number
-  pub number : IsWord counters.number
-
--- a checkpoint under its id; 0 stands for the primary
-pub record IsFileset (id : ℕ) (fileset : Fileset) : Type 0 where
-  pub some : 1 ≤ id
-  pub word : IsWord id
-  pub name : IsCheckpointName fileset.name
-  pub ctime : fileset.ctime < 2 ^ 64
 
 -- a record that a table may have
 abbrev pub IsRecord : Record → Type 0
