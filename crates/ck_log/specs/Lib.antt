@@ -1,0 +1,5 @@
+pub mod Layout
+pub mod Header
+pub mod Images
+pub mod Group
+pub mod Faults
