@@ -2,8 +2,12 @@
 #![tactic(auto)]
 
 mod faults;
+mod gate;
+mod header;
 mod layout;
+mod region;
 mod writes;
 
 pub use faults::{FormatLog, OpenLog};
 pub use layout::device_blocks;
+pub use region::Region;

@@ -1,0 +1,118 @@
+ghost use Rattle.std.specs.Prelude.{◌≡◌, ◌≤◌, ◌<◌, ◌-◌, [], length, get_or, IsTrue, IfOk, IfErr, OnOk, OnErr};
+ghost use Rattle.indexmap.specs.IndexMap.{keys, values};
+ghost use Rattle.ck_disk.specs.Disk.{LeavesOnly, Agrees, Outside, IsSynced, Step, Within, KeepsClean, Rose};
+ghost use Rattle.ck_log.specs.Layout.{table_blocks, base_of, size_of};
+ghost use Rattle.ck_log.specs.Images.{table_on, HasTable, Settled, BeforeOrAfter};
+ghost use Rattle.ck_log.specs.Group.{IsGroup, table_after};
+
+use crate::gate::{GATE, gate_block};
+use crate::layout::{area_at, base, table_blocks};
+use crate::writes::{put_block, put_run};
+use ck_disk::{Block, Disk, Failed};
+use indexmap::IndexMap;
+use std::marker::Model;
+
+/// A volume's place on a device. Its table stands in one of two areas, which the gate names; a commit
+/// writes the other area, and then the gate.
+#[derive(Drop)]
+pub struct Region {
+    blocks: u32,
+    records: u32,
+    second: bool,
+}
+
+impl Model for Region {
+    ghost use Rattle.ck_log.specs.Layout.{Layout, layout_code, IsSized};
+
+    ghost Value = { Layout };
+
+    ghost coded = { layout_code };
+
+    ghost view = { λ r. record { blocks = r.blocks; records = r.records; second = r.second } };
+
+    ghost invariant = { λ r. IsSized r.blocks r.records };
+}
+
+impl Region {
+    ghost use Rattle.ck_log.specs.Layout.{IsSized};
+
+    /// How many data blocks the volume has.
+    pub fn blocks(&self) -> u32
+        ensures value { result ≡ self.now.blocks }
+        ensures sized { IsSized self.now.blocks self.now.records }
+    {
+        self.blocks
+    }
+
+    /// How many records the table may have.
+    pub fn records(&self) -> u32
+        ensures value { result ≡ self.now.records }
+        ensures sized { IsSized self.now.blocks self.now.records }
+    {
+        self.records
+    }
+
+    /// The device's block that is data block 0.
+    pub fn base(&self) -> u32
+        ensures value { result ≡ base_of self.now.records }
+        ensures sized { IsSized self.now.blocks self.now.records }
+    {
+        base(self.records)
+    }
+
+    /// How many blocks the table has.
+    pub fn table_blocks(&self) -> u32
+        ensures value { result ≡ table_blocks self.now.records }
+        ensures sized { IsSized self.now.blocks self.now.records }
+    {
+        table_blocks(self.records)
+    }
+
+    /// Reads a block of the table.
+    pub fn read<D: Disk>(&self, disk: &mut D, at: u32, into: &mut Block) -> Result<(), Failed>
+        requires within { at < table_blocks self.now.records }
+        requires size { size_of self.now.blocks self.now.records ≤ (D.means disk.old).size }
+        requires gate { IsTrue (D.means disk.old).tells → HasTable self.now (table_on self.now (D.means disk.old).shows) (D.means disk.old).shows }
+        ensures bytes { OnOk result (IsTrue (D.means disk.old).tells → into.new ≡ get_or (table_on self.now (D.means disk.old).shows) at []) }
+        ensures shows { (D.means disk.new).shows ≡ (D.means disk.old).shows }
+        ensures crash { Within (D.means disk.new).may_leave (D.means disk.old).may_leave }
+        ensures marks { KeepsClean (D.means disk.old).written (D.means disk.new).written }
+        ensures step { Step (D.means disk.old) (D.means disk.new) }
+        ensures cause { OnErr result (Rose (D.means disk.old).read_faults (D.means disk.new).read_faults) }
+    {
+        disk.read(area_at(self.records, self.second) + at, into)
+    }
+
+    /// Puts the group in place of the table. A stop at any moment leaves the table from before or the group.
+    pub fn commit<D: Disk>(
+        &mut self,
+        disk: &mut D,
+        group: &IndexMap<u32, Block>,
+    ) -> Result<(), Failed>
+        requires size { size_of self.old.blocks self.old.records ≤ (D.means disk.old).size }
+        requires group { IsGroup self.old (keys group.now) }
+
+        // As a format, an opening or a commit that answered Ok left it.
+        requires settled { IsTrue (D.means disk.old).tells → Settled self.old (table_on self.old (D.means disk.old).shows) (D.means disk.old).may_leave }
+
+        ensures any_moment { LeavesOnly (D.means disk.old) (D.means disk.new) (λ image. IsTrue (D.means disk.old).tells
+            → BeforeOrAfter self.old (table_on self.old (D.means disk.old).shows) (table_after (table_on self.old (D.means disk.old).shows) (values group.now)) (D.means disk.old).may_leave image) }
+        ensures settled { OnOk result (IsTrue (D.means disk.old).tells → Settled self.new (table_after (table_on self.old (D.means disk.old).shows) (values group.now)) (D.means disk.new).may_leave) }
+        ensures others { IsTrue (D.means disk.old).tells → Agrees (Outside 1 (base_of self.old.records - 1)) (D.means disk.old).shows (D.means disk.new).shows }
+        ensures synced { OnOk result (0 < length (values group.now) → IsSynced (D.means disk.new)) }
+        ensures empty { values group.now ≡ [] → disk.new ≡ disk.old }
+        ensures region { self.new ≡ record self.old { second = self.new.second } }
+        ensures same { OnErr result (self.new ≡ self.old) }
+        ensures cause { OnErr result (Rose (D.means disk.old).write_faults (D.means disk.new).write_faults) }
+    {
+        let values = group.values();
+        let table = values.as_slice();
+        if table.is_empty() {
+            return Ok(());
+        }
+        put_run(disk, area_at(self.records, !self.second), table)?;
+        put_block(disk, GATE, &gate_block(!self.second))?;
+        self.second = !self.second;
+        Ok(())
+    }
+}
