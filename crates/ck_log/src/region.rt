@@ -1,4 +1,4 @@
-ghost use Rattle.std.specs.Prelude.{◌≡◌, ◌≤◌, ◌<◌, ◌-◌, [], length, get_or, IsTrue, IfOk, IfErr, OnOk, OnErr};
+ghost use Rattle.std.specs.Prelude.{◌≡◌, ◌≤◌, ◌<◌, ◌-◌, not, [], length, get_or, IsTrue, IfOk, IfErr, OnOk, OnErr};
 ghost use Rattle.indexmap.specs.IndexMap.{keys, values};
 ghost use Rattle.ck_disk.specs.Disk.{LeavesOnly, Agrees, Outside, IsSynced, Step, Within, KeepsClean, Rose};
 ghost use Rattle.ck_log.specs.Layout.{table_blocks, base_of, size_of};
@@ -110,9 +110,26 @@ impl Region {
         if table.is_empty() {
             return Ok(());
         }
-        put_run(disk, area_at(self.records, !self.second), table)?;
-        put_block(disk, GATE, &gate_block(!self.second))?;
+        self.put_table(disk, table)?;
         self.second = !self.second;
+        Ok(())
+    }
+
+    /// Writes this table into the area that the gate doesn't name, and then a gate that names it.
+    fn put_table<D: Disk>(&self, disk: &mut D, table: &[Block]) -> Result<(), Failed>
+        requires whole { length table.now ≡ table_blocks self.now.records }
+        requires size { size_of self.now.blocks self.now.records ≤ (D.means disk.old).size }
+        requires settled { IsTrue (D.means disk.old).tells → Settled self.now (table_on self.now (D.means disk.old).shows) (D.means disk.old).may_leave }
+        ensures any_moment { LeavesOnly (D.means disk.old) (D.means disk.new) (λ image. IsTrue (D.means disk.old).tells
+            → BeforeOrAfter self.now (table_on self.now (D.means disk.old).shows) table.now (D.means disk.old).may_leave image) }
+        ensures settled { OnOk result (IsTrue (D.means disk.old).tells → Settled (record self.now { second = not self.now.second }) table.now (D.means disk.new).may_leave) }
+        ensures others { IsTrue (D.means disk.old).tells → Agrees (Outside 1 (base_of self.now.records - 1)) (D.means disk.old).shows (D.means disk.new).shows }
+        ensures synced { OnOk result (IsSynced (D.means disk.new)) }
+        ensures cause { OnErr result (Rose (D.means disk.old).write_faults (D.means disk.new).write_faults) }
+    {
+        let free = area_at(self.records, !self.second);
+        put_run(disk, free, table)?;
+        put_block(disk, GATE, &gate_block(!self.second))?;
         Ok(())
     }
 }
