@@ -6,6 +6,7 @@ mod gate;
 mod header;
 mod layout;
 mod region;
+mod setup;
 mod writes;
 
 pub use faults::{FormatLog, OpenLog};
