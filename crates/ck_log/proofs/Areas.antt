@@ -1,5 +1,5 @@
 -- Where the two areas lie.
-use Rattle.std.proofs.Common.{◌≡◌, ◌⊎◌, inl, inr, ⊎_elim, ◌≤◌, ◌<◌, ◌+◌, ◌*◌, ◌-◌, ℕ, Bool, true, false, not, ap, arith}
+use Rattle.std.proofs.Common.{◌≡◌, ◌⊎◌, inl, inr, ⊎_elim, ◌≤◌, ◌<◌, ◌+◌, ◌*◌, ◌-◌, ℕ, Bool, true, false, not, sym, ap, subst, arith}
 use Rattle.ck_disk.specs.Disk.{Image, Outside}
 use Rattle.ck_log.specs.Layout.{Layout, table_blocks, first_area, area_at, base_of}
 use Rattle.ck_log.specs.Images.{part, names_second, table_on}
@@ -30,6 +30,11 @@ others_area records second k outside =
     let high = area_high records second in
     let first = first_area-low records in
     ⊎_elim (λ (h : k < 1). inl (omega arith)) (λ (h : 1 + (base_of records - 1) ≤ k). inr (omega arith)) outside
+
+-- the same of an area that is given by its numbers
+pub outside_area : (records : ℕ) (second : Bool) (free n : ℕ) → free ≡ area_at records second → n ≡ table_blocks records → (k : ℕ) → Outside 1 (base_of records - 1) k → Outside free n k
+outside_area records second free n is_free long k outside =
+    subst (λ (m : ℕ). Outside free m k) (sym long) (subst (λ (p : ℕ). Outside p (table_blocks records) k) (sym is_free) (others_area records second k outside))
 
 pub others_gate : (records : ℕ) (k : ℕ) → Outside 1 (base_of records - 1) k → Outside 1 1 k
 others_gate records k outside =

@@ -9,7 +9,7 @@ use Rattle.ck_disk.proofs.Moments.{weakens, joins, now, synced_only, agrees_less
 use Rattle.ck_log.specs.Layout.{Layout, table_blocks, area_at, base_of}
 use Rattle.ck_log.specs.Images.{part, table_on, HasTable, Settled, BeforeOrAfter}
 use Rattle.ck_log.specs.Group.{IsGroup, table_after}
-use Rattle.ck_log.proofs.Areas.{others_area, others_gate}
+use Rattle.ck_log.proofs.Areas.{outside_area, others_gate}
 use Rattle.ck_log.proofs.Phases.{staged, opened}
 
 pub told_on : (old new : Bool) → new ≡ old → IsTrue old → IsTrue new
@@ -67,7 +67,7 @@ module _ (layout : Layout) (before table : Image) (old : Meaning) (settled : IsT
 pub others_after_run : (layout : Layout) (second : Bool) (free n : ℕ) (d c : Image) → free ≡ area_at layout.records second → n ≡ table_blocks layout.records → Agrees (Outside free n) d c → Agrees (Outside 1 (base_of layout.records - 1)) d c
 others_after_run layout second free n d c is_free long same =
     agrees_less (Outside free n) (Outside 1 (base_of layout.records - 1)) d c
-    (λ k outside. subst (λ (m : ℕ). Outside free m k) (sym long) (subst (λ (p : ℕ). Outside p (table_blocks layout.records) k) (sym is_free) (others_area layout.records second k outside))) same
+    (outside_area layout.records second free n is_free long) same
 
 pub others_after_gate : (layout : Layout) (d s c : Image) → Agrees (Outside 1 (base_of layout.records - 1)) d s → Agrees (Outside 1 1) s c → Agrees (Outside 1 (base_of layout.records - 1)) d c
 others_after_gate layout d s c before same =

@@ -1,5 +1,5 @@
 -- Runs of blocks in an image.
-use Rattle.std.proofs.Common.{◌≡◌, ◌≢◌, ⊎_elim, ◌≤◌, ◌<◌, ◌+◌, ◌++◌, ℕ, List, [], ◌∷◌, length, get_or, set, take, drop, sym, ◌∙◌, ap, arith, get_or-take, get_or-drop, ext_get_or, length-drop}
+use Rattle.std.proofs.Common.{◌≡◌, ◌≢◌, ⊎_elim, ◌≤◌, ◌<◌, ◌+◌, ◌-◌, ◌++◌, ℕ, suc, List, [], ◌∷◌, length, get_or, set, take, drop, sym, ◌∙◌, ap, arith, get_or-take, get_or-drop, ext_get_or, length-drop, drop-cons}
 use Rattle.std.proofs.lemmas.List.{length-take, drop-set-add, take_more, take_more_set}
 use Rattle.ck_disk.specs.Disk.{Image, Agrees, Outside}
 use Rattle.ck_log.specs.Images.{part}
@@ -30,3 +30,14 @@ part_agrees K d c at n same inside = ext_get_or [] (part at n c) (part at n d) l
 
 pub apart_run : (at n i place : ℕ) → place ≡ at + i → i < n → (k : ℕ) → Outside at n k → k ≢ place
 apart_run at n i place is lt k outside same = ⊎_elim (λ (h : k < at). omega arith) (λ (h : at + n ≤ k). omega arith) outside
+
+-- a run's first block, and the blocks behind it
+pub part_first : (c : Image) (at n : ℕ) (b : List ℕ) (rest : Image) → 1 ≤ n → at < length c → get_or c at [] ≡ b → part (at + 1) (n - 1) c ≡ rest → part at n c ≡ b ∷ rest
+part_first c at n b rest some lt is behind =
+    let e : n ≡ suc (n - 1) = omega arith in
+    let next : suc at ≡ at + 1 = omega arith in
+    ap (λ (l : Image). take n l) (drop-cons c at [] lt)
+    ∙ ap (λ (m : ℕ). take m (get_or c at [] ∷ drop (suc at) c)) e
+    ∙ ap (λ (x : List ℕ). x ∷ take (n - 1) (drop (suc at) c)) is
+    ∙ ap (λ (p : ℕ). b ∷ take (n - 1) (drop p c)) next
+    ∙ ap (λ (l : Image). b ∷ l) behind

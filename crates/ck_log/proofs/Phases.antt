@@ -13,12 +13,16 @@ one_or_other true false = inr refl
 one_or_other false true = inr refl
 one_or_other false false = inl refl
 
-apart_gate : (k : ℕ) → Outside 1 1 k → k ≡ 1 → ⊥
+pub apart_gate : (k : ℕ) → Outside 1 1 k → k ≡ 1 → ⊥
 apart_gate = apart_run 1 1 0 1 (omega arith) (omega arith)
 
 -- a write elsewhere leaves the gate
-same_gate : (K : ℕ → Type 0) (d c : Image) → K 1 → Agrees K d c → names_second c ≡ names_second d
+pub same_gate : (K : ℕ → Type 0) (d c : Image) → K 1 → Agrees K d c → names_second c ≡ names_second d
 same_gate K d c kept same = ap (λ (b : List ℕ). get_or b 0 0 == 71) (same.at 1 kept)
+
+-- a gate that was written
+pub put_gate : (s : Image) (gate : List ℕ) (second : Bool) → 1 < length s → (get_or gate 0 0 == 71) ≡ second → names_second (set s 1 gate) ≡ second
+put_gate s gate second long byte = ap (λ (b : List ℕ). get_or b 0 0 == 71) (get_or-set_same s 1 gate [] long) ∙ byte
 
 module _ (layout : Layout) where
   -- the area that the gate doesn't name
@@ -68,4 +72,4 @@ module _ (layout : Layout) where
   }
     where
       named : names_second c ≡ layout.second
-      named = ap names_second is ∙ ap (λ (b : List ℕ). get_or b 0 0 == 71) (get_or-set_same s 1 gate [] long) ∙ byte
+      named = ap names_second is ∙ put_gate s gate layout.second long byte
