@@ -1,7 +1,8 @@
 // The gate: the block that says which of the two areas has the table.
 ghost use Rattle.std.specs.Prelude.{◌≡◌, ◌<◌, ◌==◌, slice_index, IsTrue, IfOk, OnErr, if◌then◌else◌};
-ghost use Rattle.ck_disk.specs.Disk.{Step, Within, KeepsClean, Rose};
+ghost use Rattle.ck_disk.specs.Disk.{Rose};
 ghost use Rattle.ck_log.specs.Images.{names_second};
+ghost use Rattle.ck_log.specs.Reads.{OnlyReads};
 
 use ck_disk::{Block, Disk, Failed};
 
@@ -26,10 +27,7 @@ pub fn gate_block(second: bool) -> Block
 pub fn read_gate<D: Disk>(disk: &mut D) -> Result<bool, Failed>
     requires { 1 < (D.means disk.old).size }
     ensures second { IfOk result (λ second. IsTrue (D.means disk.old).tells → second ≡ names_second (D.means disk.old).shows) }
-    ensures shows { (D.means disk.new).shows ≡ (D.means disk.old).shows }
-    ensures crash { Within (D.means disk.new).may_leave (D.means disk.old).may_leave }
-    ensures marks { KeepsClean (D.means disk.old).written (D.means disk.new).written }
-    ensures step { Step (D.means disk.old) (D.means disk.new) }
+    ensures device { OnlyReads (D.means disk.old) (D.means disk.new) }
     ensures cause { OnErr result (Rose (D.means disk.old).read_faults (D.means disk.new).read_faults) }
 {
     let mut gate = [0; 4096];

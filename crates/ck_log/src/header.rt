@@ -1,12 +1,13 @@
 // The header: the block that says what volume a device has.
-ghost use Rattle.std.specs.Prelude.{◌≡◌, ◌≤◌, Bool, true, IfOk, IfErr};
+ghost use Rattle.std.specs.Prelude.{◌≡◌, ◌≤◌, Bool, true, [], get_or, IsTrue, IfOk, IfErr};
 ghost use Rattle.ck_log.specs.Layout.{IsSized, is_sized, size_of};
 ghost use Rattle.ck_log.specs.Header.{header_of, recovered_by, Opens};
-ghost use Rattle.ck_log.specs.Faults.{IsRefusal};
+ghost use Rattle.ck_log.specs.Reads.{OnlyReads};
+ghost use Rattle.ck_log.specs.Faults.{IsRefusal, IsOpenFault};
 
 use crate::faults::OpenLog;
 use crate::layout::device_blocks;
-use ck_disk::Block;
+use ck_disk::{Block, Disk};
 use ck_num::{get_u32, put_u32};
 
 /// The header's block.
@@ -57,6 +58,25 @@ pub fn sizes_in(header: &Block, size: u32) -> Result<Sizes, OpenLog>
         return Err(OpenLog::NotVolume);
     }
     Ok(Sizes { blocks, records })
+}
+
+/// Reads the sizes of the volume on the device.
+pub fn read_sizes<D: Disk>(disk: &mut D) -> Result<Sizes, OpenLog>
+    ensures opens { IfOk result (λ sizes. IsTrue (D.means disk.old).tells → (second : Bool) → recovered_by (get_or (D.means disk.old).shows 0 []) second (D.means disk.old).size ≡ Opens (record { blocks = sizes.blocks; records = sizes.records; second = second })) }
+    ensures sized { IfOk result (λ sizes. IsSized sizes.blocks sizes.records) }
+    ensures fits { IfOk result (λ sizes. size_of sizes.blocks sizes.records ≤ (D.means disk.old).size) }
+    ensures device { OnlyReads (D.means disk.old) (D.means disk.new) }
+    ensures refused { IfErr result (IsOpenFault (D.means disk.old) (D.means disk.new)) }
+{
+    let size = disk.blocks();
+    let mut header = [0; 4096];
+    if size == 0 {
+        return Err(OpenLog::NotVolume);
+    }
+    if disk.read(HEADER, &mut header).is_err() {
+        return Err(OpenLog::ReadFault);
+    }
+    sizes_in(&header, size)
 }
 
 /// Whether these numbers are within the limits.

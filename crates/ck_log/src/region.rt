@@ -1,12 +1,19 @@
-ghost use Rattle.std.specs.Prelude.{◌≡◌, ◌≤◌, ◌<◌, ◌-◌, not, [], length, get_or, IsTrue, IfOk, IfErr, OnOk, OnErr};
+ghost use Rattle.std.specs.Prelude.{◌≡◌, ◌≤◌, ◌<◌, ◌-◌, not, false, Err, [], length, get_or, IsTrue, IfOk, IfErr, OnOk, OnErr};
 ghost use Rattle.indexmap.specs.IndexMap.{keys, values};
-ghost use Rattle.ck_disk.specs.Disk.{LeavesOnly, Agrees, Outside, IsSynced, Step, Within, KeepsClean, Rose};
+ghost use Rattle.ck_disk.specs.Disk.{LeavesOnly, Agrees, Outside, IsSynced, KeepsClean, Rose};
 ghost use Rattle.ck_log.specs.Layout.{table_blocks, base_of, size_of};
-ghost use Rattle.ck_log.specs.Images.{table_on, HasTable, Settled, BeforeOrAfter};
+ghost use Rattle.ck_log.specs.Images.{recovered_region, table_on, HasTable, Settled, BeforeOrAfter};
+ghost use Rattle.ck_log.specs.Reads.{OnlyReads};
+ghost use Rattle.ck_log.specs.FirstTable.{first_table, WholeOrBefore};
+ghost use Rattle.ck_log.specs.Header.{Opens};
+ghost use Rattle.ck_log.specs.Faults.{IsFormatFault, IsOpenFault};
 ghost use Rattle.ck_log.specs.Group.{IsGroup, table_after};
 
-use crate::gate::{GATE, gate_block};
-use crate::layout::{area_at, base, table_blocks};
+use crate::faults::{FormatLog, OpenLog};
+use crate::gate::{GATE, gate_block, read_gate};
+use crate::header::read_sizes;
+use crate::layout::{area_at, base, device_blocks, table_blocks};
+use crate::setup::make_volume;
 use crate::writes::{put_block, put_run};
 use ck_disk::{Block, Disk, Failed};
 use indexmap::IndexMap;
@@ -35,6 +42,62 @@ impl Model for Region {
 
 impl Region {
     ghost use Rattle.ck_log.specs.Layout.{IsSized};
+
+    /// Makes a volume on the device, with the root directory alone.
+    pub fn format<D: Disk>(disk: &mut D, blocks: u32, records: u32) -> Result<Region, FormatLog>
+        requires { IsSized blocks records }
+        ensures region { IfOk result (λ region. region ≡ record { blocks = blocks; records = records; second = false }) }
+        ensures volume { IfOk result (λ region. IsTrue (D.means disk.old).tells → recovered_region (D.means disk.new).shows ≡ Opens region) }
+        ensures settled { IfOk result (λ region. IsTrue (D.means disk.old).tells → Settled region (first_table (table_blocks records)) (D.means disk.new).may_leave) }
+        ensures synced { OnOk result (IsSynced (D.means disk.new)) }
+        ensures any_moment { LeavesOnly (D.means disk.old) (D.means disk.new) (λ image. IsTrue (D.means disk.old).tells
+            → WholeOrBefore (record { blocks = blocks; records = records; second = false }) (D.means disk.old).may_leave image) }
+        ensures others { IsTrue (D.means disk.old).tells → Agrees (Outside 0 (base_of records)) (D.means disk.old).shows (D.means disk.new).shows }
+
+        // A device that is too short is left as it is.
+        ensures short { (D.means disk.old).size < size_of blocks records → result ≡ Err (FormatLog.BadSize (size_of blocks records) (D.means disk.old).size) }
+        ensures untouched { (D.means disk.old).size < size_of blocks records → disk.new ≡ disk.old }
+        ensures refused { IfErr result (IsFormatFault (size_of blocks records) (D.means disk.old) (D.means disk.new)) }
+    {
+        let needs = device_blocks(blocks, records);
+        let has = disk.blocks();
+        if has < needs {
+            return Err(FormatLog::BadSize { needs, has });
+        }
+        match make_volume(disk, blocks, records) {
+            Ok(()) => Ok(Region {
+                blocks,
+                records,
+                second: false,
+            }),
+            Err(_) => Err(FormatLog::WriteFault),
+        }
+    }
+
+    /// Finds the volume on the device, with the table that was committed last.
+    pub fn open_on<D: Disk>(disk: &mut D) -> Result<Region, OpenLog>
+        ensures opens { IfOk result (λ region. IsTrue (D.means disk.old).tells → recovered_region (D.means disk.old).shows ≡ Opens region) }
+        ensures size { IfOk result (λ region. size_of region.blocks region.records ≤ (D.means disk.old).size) }
+        ensures settled { IfOk result (λ region. IsTrue (D.means disk.old).tells → Settled region (table_on region (D.means disk.old).shows) (D.means disk.new).may_leave) }
+        ensures synced { OnOk result (IsSynced (D.means disk.new)) }
+        ensures shows { (D.means disk.new).shows ≡ (D.means disk.old).shows }
+        ensures marks { KeepsClean (D.means disk.old).written (D.means disk.new).written }
+        ensures any_moment { LeavesOnly (D.means disk.old) (D.means disk.new) (D.means disk.old).may_leave }
+        ensures refused { IfErr result (IsOpenFault (D.means disk.old) (D.means disk.new)) }
+    {
+        if disk.sync().is_err() {
+            return Err(OpenLog::WriteFault);
+        }
+        let sizes = read_sizes(disk)?;
+        match read_gate(disk) {
+            Ok(second) => Ok(Region {
+                blocks: sizes.blocks,
+                records: sizes.records,
+                second,
+            }),
+            Err(_) => Err(OpenLog::ReadFault),
+        }
+    }
 
     /// How many data blocks the volume has.
     pub fn blocks(&self) -> u32
@@ -74,10 +137,7 @@ impl Region {
         requires size { size_of self.now.blocks self.now.records ≤ (D.means disk.old).size }
         requires gate { IsTrue (D.means disk.old).tells → HasTable self.now (table_on self.now (D.means disk.old).shows) (D.means disk.old).shows }
         ensures bytes { OnOk result (IsTrue (D.means disk.old).tells → into.new ≡ get_or (table_on self.now (D.means disk.old).shows) at []) }
-        ensures shows { (D.means disk.new).shows ≡ (D.means disk.old).shows }
-        ensures crash { Within (D.means disk.new).may_leave (D.means disk.old).may_leave }
-        ensures marks { KeepsClean (D.means disk.old).written (D.means disk.new).written }
-        ensures step { Step (D.means disk.old) (D.means disk.new) }
+        ensures device { OnlyReads (D.means disk.old) (D.means disk.new) }
         ensures cause { OnErr result (Rose (D.means disk.old).read_faults (D.means disk.new).read_faults) }
     {
         disk.read(area_at(self.records, self.second) + at, into)

@@ -1,12 +1,15 @@
 // What makes a new volume on a device: its first table and a gate that names it, and then the header.
-ghost use Rattle.std.specs.Prelude.{◌≡◌, ◌+◌, ◌-◌, ◌≤◌, ◌<◌, false, replicate, set, IsTrue, OnOk, OnErr};
+ghost use Rattle.std.specs.Prelude.{◌≡◌, ◌+◌, ◌-◌, ◌≤◌, ◌<◌, false, replicate, IsTrue, OnOk, OnErr};
 ghost use Rattle.ck_disk.specs.Disk.{LeavesOnly, Reaches, Outside, Agrees, IsSynced, Rose};
-ghost use Rattle.ck_log.specs.Layout.{table_blocks, area_at, base_of};
-ghost use Rattle.ck_log.specs.Images.{part, names_second};
-ghost use Rattle.ck_log.specs.FirstTable.{blank_block, first_block, first_table};
+ghost use Rattle.ck_log.specs.Layout.{IsSized, table_blocks, area_at, base_of, size_of};
+ghost use Rattle.ck_log.specs.Images.{part, names_second, recovered_region, HasTable};
+ghost use Rattle.ck_log.specs.Header.{Opens};
+ghost use Rattle.ck_log.specs.FirstTable.{blank_block, first_block, first_table, WholeOrBefore};
 
 use crate::gate::{GATE, gate_block};
+use crate::header::{HEADER, header_block};
 use crate::layout::{area_at, table_blocks};
+use crate::writes::put_block;
 use ck_disk::{Block, Disk, Failed};
 use ck_num::{put_u32, put_u64};
 
@@ -53,7 +56,7 @@ fn write_first_table<D: Disk>(disk: &mut D, at: u32, count: u32) -> Result<(), F
 }
 
 /// Writes a gate that names the first area, and the table of a new volume there, and syncs.
-pub fn put_first_table<D: Disk>(disk: &mut D, records: u32) -> Result<(), Failed>
+fn put_first_table<D: Disk>(disk: &mut D, records: u32) -> Result<(), Failed>
     requires few { records ≤ 262144 }
     requires size { base_of records ≤ (D.means disk.old).size }
     ensures any_moment { LeavesOnly (D.means disk.old) (D.means disk.new) (Reaches (Outside 1 (base_of records - 1)) (D.means disk.old).may_leave) }
@@ -68,5 +71,22 @@ pub fn put_first_table<D: Disk>(disk: &mut D, records: u32) -> Result<(), Failed
     disk.write(GATE, &gate_block(false))?;
     write_first_table(disk, first, count)?;
     disk.sync()?;
+    Ok(())
+}
+
+/// Makes a volume. Its header is written only once its table is safe.
+pub fn make_volume<D: Disk>(disk: &mut D, blocks: u32, records: u32) -> Result<(), Failed>
+    requires sized { IsSized blocks records }
+    requires size { size_of blocks records ≤ (D.means disk.old).size }
+    ensures any_moment { LeavesOnly (D.means disk.old) (D.means disk.new) (λ image. IsTrue (D.means disk.old).tells
+        → WholeOrBefore (record { blocks = blocks; records = records; second = false }) (D.means disk.old).may_leave image) }
+    ensures volume { OnOk result (IsTrue (D.means disk.old).tells → recovered_region (D.means disk.new).shows ≡ Opens (record { blocks = blocks; records = records; second = false })) }
+    ensures table { OnOk result (IsTrue (D.means disk.old).tells → HasTable (record { blocks = blocks; records = records; second = false }) (first_table (table_blocks records)) (D.means disk.new).shows) }
+    ensures others { IsTrue (D.means disk.old).tells → Agrees (Outside 0 (base_of records)) (D.means disk.old).shows (D.means disk.new).shows }
+    ensures synced { OnOk result (IsSynced (D.means disk.new)) }
+    ensures cause { OnErr result (Rose (D.means disk.old).write_faults (D.means disk.new).write_faults) }
+{
+    put_first_table(disk, records)?;
+    put_block(disk, HEADER, &header_block(blocks, records))?;
     Ok(())
 }
