@@ -73,10 +73,10 @@ pub fn read_sizes<D: Disk>(disk: &mut D) -> Result<Sizes, OpenLog>
     if size == 0 {
         return Err(OpenLog::NotVolume);
     }
-    if disk.read(HEADER, &mut header).is_err() {
-        return Err(OpenLog::ReadFault);
+    match disk.read(HEADER, &mut header) {
+        Ok(()) => sizes_in(&header, size),
+        Err(_) => Err(OpenLog::ReadFault),
     }
-    sizes_in(&header, size)
 }
 
 /// Whether these numbers are within the limits.
