@@ -9,6 +9,16 @@ pub first_area-low : (records : ℕ) → 2 ≤ first_area records
 unfolding first_area
 first_area-low records = omega arith
 
+-- the unused blocks in front of them hold a count and as many numbers as the table has blocks, 1,024 in each
+pub first_area-holds : (records : ℕ) → table_blocks records + 1 ≤ 1024 * (first_area records - 2)
+unfolding first_area
+first_area-holds records = omega arith
+
+-- and no fewer do
+pub first_area-least : (records count : ℕ) → table_blocks records + 1 ≤ 1024 * count → first_area records ≤ 2 + count
+unfolding first_area
+first_area-least records count holds = omega arith
+
 pub area_low : (records : ℕ) (second : Bool) → 2 ≤ area_at records second
 area_low records true = omega (arith, first_area-low records)
 area_low records false = first_area-low records

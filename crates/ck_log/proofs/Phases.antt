@@ -29,18 +29,18 @@ module _ (layout : Layout) where
   abbrev Unnamed : ℕ → Type 0
   Unnamed = Outside (area_at layout.records (not layout.second)) (table_blocks layout.records)
 
-  abbrev area_of : Bool → Image → Image
-  area_of second c = part (area_at layout.records second) (table_blocks layout.records) c
+  abbrev in_area : Bool → Image → Image
+  in_area second c = part (area_at layout.records second) (table_blocks layout.records) c
 
   -- an area lies behind the gate
-  behind : (s c : Image) (b : Bool) → Agrees (Outside 1 1) s c → area_of b c ≡ area_of b s
+  behind : (s c : Image) (b : Bool) → Agrees (Outside 1 1) s c → in_area b c ≡ in_area b s
   behind s c b same = part_agrees (Outside 1 1) s c (area_at layout.records b) (table_blocks layout.records) same (λ i lt. inr (omega (arith, area_low layout.records b)))
 
   module _ (before table : Image) (all : Image → Type 0) (settled : Settled layout before all) where
     kept_gate : (c : Image) → Reaches Unnamed all c → names_second c ≡ layout.second
     kept_gate c from = same_gate Unnamed from.0 c (inl (omega (arith, area_low layout.records (not layout.second)))) from.2 ∙ (settled from.0 from.1).gate
 
-    kept_table : (c : Image) → Reaches Unnamed all c → area_of layout.second c ≡ before
+    kept_table : (c : Image) → Reaches Unnamed all c → in_area layout.second c ≡ before
     kept_table c from =
         part_agrees Unnamed from.0 c (area_at layout.records layout.second) (table_blocks layout.records) from.2 (other_area layout.records layout.second)
         ∙ sym (table_at layout from.0 layout.second (settled from.0 from.1).gate) ∙ (settled from.0 from.1).table
@@ -53,7 +53,7 @@ module _ (layout : Layout) where
     }
 
     -- while the gate is written, whatever it holds
-    pub opened : (s c : Image) → Reaches Unnamed all s → area_of (not layout.second) s ≡ table → Agrees (Outside 1 1) s c → BeforeOrAfter layout before table all c
+    pub opened : (s c : Image) → Reaches Unnamed all s → in_area (not layout.second) s ≡ table → Agrees (Outside 1 1) s c → BeforeOrAfter layout before table all c
     opened s c from written same = record {
       table = ⊎_elim
           (λ (is : names_second c ≡ layout.second). inl (table_at layout c layout.second is ∙ behind s c layout.second same ∙ kept_table s from))
@@ -65,10 +65,10 @@ module _ (layout : Layout) where
     }
 
   -- once the gate is written
-  pub committed : (s : Image) (gate : List ℕ) (table c : Image) → 1 < length s → (get_or gate 0 0 == 71) ≡ layout.second → area_of layout.second s ≡ table → c ≡ set s 1 gate → HasTable layout table c
+  pub committed : (s : Image) (gate : List ℕ) (table c : Image) → 1 < length s → (get_or gate 0 0 == 71) ≡ layout.second → in_area layout.second s ≡ table → c ≡ set s 1 gate → HasTable layout table c
   committed s gate table c long byte written is = record {
     gate = named;
-    table = table_at layout c layout.second named ∙ ap (area_of layout.second) is ∙ behind s (set s 1 gate) layout.second (agrees_set (Outside 1 1) s 1 gate apart_gate) ∙ written;
+    table = table_at layout c layout.second named ∙ ap (in_area layout.second) is ∙ behind s (set s 1 gate) layout.second (agrees_set (Outside 1 1) s 1 gate apart_gate) ∙ written;
   }
     where
       named : names_second c ≡ layout.second

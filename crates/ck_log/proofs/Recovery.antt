@@ -8,7 +8,7 @@ use Rattle.std.proofs.lemmas.Bool.Decides.{nat_tests}
 use Rattle.ck_disk.specs.Disk.{Image, Meaning, Agrees, Outside, TearsAt}
 use Rattle.ck_log.specs.Layout.{Layout, IsSized, is_sized, table_blocks, area_at, base_of, size_of}
 use Rattle.ck_log.specs.Header.{Recovered, NotVolume, BadFormat, Opens, magic, header_of, number_at, sized_volume, recovered_by}
-use Rattle.ck_log.specs.Images.{names_second, recovered_region, table_on, HasTable}
+use Rattle.ck_log.specs.Images.{names_second, recovered_region, table_on, area_of, HasTable, BeforeOrAfter}
 use Rattle.ck_log.specs.Faults.{IsRefusal, IsOpenFault}
 use Rattle.ck_log.specs.declared.faults.OpenLog.{OpenLog}
 use Rattle.ck_log.specs.declared.faults.OpenLog.TheVariants as open_log
@@ -133,10 +133,25 @@ has_table-agrees layout blocks K d c kept same has = record {
   table = table_on-agrees layout K d c kept same ∙ has.table;
 }
 
--- ---- a write of a data block
+-- the area that a layout names has the table
+pub area_of-has : (layout : Layout) (blocks c : Image) → HasTable layout blocks c → area_of layout c ≡ blocks
+area_of-has layout blocks c has = sym (table_at layout c layout.second has.gate) ∙ has.table
 
-apart_at : (at k : ℕ) → k < at → Outside at 1 k
-apart_at at k lt = inl lt
+-- ---- a commit
+
+-- each image of a commit has the volume from before, with the area that its own gate names
+pub recovered_region-between : (layout : Layout) (before after : Image) (all : Image → Type 0) → ((d : Image) → all d → recovered_region d ≡ Opens layout) → (c : Image) → BeforeOrAfter layout before after all c
+    → recovered_region c ≡ Opens (record layout { second = names_second c })
+recovered_region-between layout before after all is c between =
+    let from = between.others in
+    recovered_region-gate layout (Outside 1 (base_of layout.records - 1)) from.0 c (inl (omega arith)) from.2 (is from.0 from.1)
+
+-- and once it is done, the volume with the area that the region names
+pub recovered_region-settled : (layout : Layout) (second : Bool) (blocks c : Image) → recovered_region c ≡ Opens (record layout { second = names_second c }) → HasTable (record layout { second = second }) blocks c
+    → recovered_region c ≡ Opens (record layout { second = second })
+recovered_region-settled layout second blocks c is has = is ∙ ap (λ (b : Bool). Opens (record layout { second = b })) has.gate
+
+-- ---- a write of a data block
 
 -- leaves the region and the table of an image as they were
 pub recovered_region-set : (image : Image) (at : ℕ) (b : List ℕ) → 2 ≤ at → recovered_region (set image at b) ≡ recovered_region image
@@ -154,10 +169,10 @@ table_on-set layout image at b high =
     below k lt e = omega arith
 
 -- and of every image that a crash then leaves
-pub recovered_region-torn : (at : ℕ) (old new : Image → Type 0) → 2 ≤ at → TearsAt at old new → (c : Image) → new c → (d : Image) × old d × (recovered_region c ≡ recovered_region d)
-recovered_region-torn at old new high torn c left =
+pub recovered_region-torn : (found : Recovered) (at : ℕ) (old new : Image → Type 0) → 2 ≤ at → TearsAt at old new → ((c : Image) → old c → recovered_region c ≡ found) → (c : Image) → new c → recovered_region c ≡ found
+recovered_region-torn found at old new high torn is c left =
     let from = torn c left in
-    (from.0, from.2, ap recovered_region from.3 ∙ recovered_region-set from.0 at from.1 high)
+    ap recovered_region from.3 ∙ recovered_region-set from.0 at from.1 high ∙ is from.0 from.2
 
 pub settled-torn : (layout : Layout) (blocks : Image) (at : ℕ) (old new : Image → Type 0) → base_of layout.records ≤ at → TearsAt at old new → ((c : Image) → old c → HasTable layout blocks c) → (c : Image) → new c → HasTable layout blocks c
 settled-torn layout blocks at old new high torn settled c left =

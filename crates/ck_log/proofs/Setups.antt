@@ -77,6 +77,10 @@ pub first_has : (blocks records : ℕ) (c : Image) → names_second c ≡ false 
     → HasTable (record { blocks = blocks; records = records; second = false }) (first_table (table_blocks records)) c
 first_has blocks records c gate is = record { gate = gate; table = table_at (record { blocks = blocks; records = records; second = false }) c false gate ∙ is }
 
+-- the header stands there
+pub header_put : (blocks records : ℕ) (mid new : Image) (header : List ℕ) → 0 < length mid → header ≡ header_of blocks records → new ≡ set mid 0 header → get_or new 0 [] ≡ header_of blocks records
+header_put blocks records mid new header some is put = ap (λ (s : Image). get_or s 0 []) put ∙ get_or-set_same mid 0 header [] some ∙ is
+
 -- with its header there is a volume
 pub new_volume : (blocks records : ℕ) (mid new : Image) (header : List ℕ) → IsSized blocks records → size_of blocks records ≤ length mid → 0 < length mid
     → names_second mid ≡ false → header ≡ header_of blocks records → new ≡ set mid 0 header → Agrees (Outside 0 1) mid new
@@ -84,7 +88,7 @@ pub new_volume : (blocks records : ℕ) (mid new : Image) (header : List ℕ) �
 new_volume blocks records mid new header sized long some gate is put same =
     recovered_read new new false (length mid) (Opens (record { blocks = blocks; records = records; second = false })) refl
     (sym (same_gate (Outside 0 1) mid new (inr (omega arith)) same ∙ gate)) (sym same.size)
-    (ap (λ (b : List ℕ). recovered_by b false (length mid)) (ap (λ (s : Image). get_or s 0 []) put ∙ get_or-set_same mid 0 header [] some ∙ is)
+    (ap (λ (b : List ℕ). recovered_by b false (length mid)) (header_put blocks records mid new header some is put)
     ∙ recovered_by-header_of blocks records false (length mid) sized long)
 
 module _ (blocks records : ℕ) (old mid : Meaning) where

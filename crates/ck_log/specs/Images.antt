@@ -20,6 +20,10 @@ recovered_region image = recovered_by (get_or image 0 []) (names_second image) (
 abbrev pub table_on : Layout → Image → Image
 table_on layout image = part (area_at layout.records (names_second image)) (table_blocks layout.records) image
 
+-- the blocks of the area that the layout itself names
+abbrev pub area_of : Layout → Image → Image
+area_of layout image = part (area_at layout.records layout.second) (table_blocks layout.records) image
+
 -- the image's gate names this layout's area, and it has this table there
 pub record HasTable (layout : Layout) (blocks image : Image) : Type 0 where
   pub gate : names_second image ≡ layout.second

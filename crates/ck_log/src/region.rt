@@ -2,10 +2,10 @@ ghost use Rattle.std.specs.Prelude.{◌≡◌, ◌≤◌, ◌<◌, ◌-◌, not,
 ghost use Rattle.indexmap.specs.IndexMap.{keys, values};
 ghost use Rattle.ck_disk.specs.Disk.{LeavesOnly, Agrees, Outside, IsSynced, KeepsClean, Rose};
 ghost use Rattle.ck_log.specs.Layout.{table_blocks, base_of, size_of};
-ghost use Rattle.ck_log.specs.Images.{recovered_region, table_on, HasTable, Settled, BeforeOrAfter};
+ghost use Rattle.ck_log.specs.Images.{recovered_region, table_on, area_of, Settled, BeforeOrAfter};
 ghost use Rattle.ck_log.specs.Reads.{OnlyReads};
 ghost use Rattle.ck_log.specs.FirstTable.{first_table, WholeOrBefore};
-ghost use Rattle.ck_log.specs.Header.{Opens};
+ghost use Rattle.ck_log.specs.Header.{Opens, header_of};
 ghost use Rattle.ck_log.specs.Faults.{IsFormatFault, IsOpenFault};
 ghost use Rattle.ck_log.specs.Group.{IsGroup, table_after};
 
@@ -47,7 +47,9 @@ impl Region {
     pub fn format<D: Disk>(disk: &mut D, blocks: u32, records: u32) -> Result<Region, FormatLog>
         requires { IsSized blocks records }
         ensures region { IfOk result (λ region. region ≡ record { blocks = blocks; records = records; second = false }) }
+        ensures size { OnOk result (size_of blocks records ≤ (D.means disk.old).size) }
         ensures volume { IfOk result (λ region. IsTrue (D.means disk.old).tells → recovered_region (D.means disk.new).shows ≡ Opens region) }
+        ensures header { OnOk result (IsTrue (D.means disk.old).tells → get_or (D.means disk.new).shows 0 [] ≡ header_of blocks records) }
         ensures settled { IfOk result (λ region. IsTrue (D.means disk.old).tells → Settled region (first_table (table_blocks records)) (D.means disk.new).may_leave) }
         ensures synced { OnOk result (IsSynced (D.means disk.new)) }
         ensures any_moment { LeavesOnly (D.means disk.old) (D.means disk.new) (λ image. IsTrue (D.means disk.old).tells
@@ -77,6 +79,7 @@ impl Region {
     /// Finds the volume on the device, with the table that was committed last.
     pub fn open_on<D: Disk>(disk: &mut D) -> Result<Region, OpenLog>
         ensures opens { IfOk result (λ region. IsTrue (D.means disk.old).tells → recovered_region (D.means disk.old).shows ≡ Opens region) }
+        ensures sized { IfOk result (λ region. IsSized region.blocks region.records) }
         ensures size { IfOk result (λ region. size_of region.blocks region.records ≤ (D.means disk.old).size) }
         ensures settled { IfOk result (λ region. IsTrue (D.means disk.old).tells → Settled region (table_on region (D.means disk.old).shows) (D.means disk.new).may_leave) }
         ensures synced { OnOk result (IsSynced (D.means disk.new)) }
@@ -135,8 +138,7 @@ impl Region {
     pub fn read<D: Disk>(&self, disk: &mut D, at: u32, into: &mut Block) -> Result<(), Failed>
         requires within { at < table_blocks self.now.records }
         requires size { size_of self.now.blocks self.now.records ≤ (D.means disk.old).size }
-        requires gate { IsTrue (D.means disk.old).tells → HasTable self.now (table_on self.now (D.means disk.old).shows) (D.means disk.old).shows }
-        ensures bytes { OnOk result (IsTrue (D.means disk.old).tells → into.new ≡ get_or (table_on self.now (D.means disk.old).shows) at []) }
+        ensures bytes { OnOk result (IsTrue (D.means disk.old).tells → into.new ≡ get_or (area_of self.now (D.means disk.old).shows) at []) }
         ensures device { OnlyReads (D.means disk.old) (D.means disk.new) }
         ensures cause { OnErr result (Rose (D.means disk.old).read_faults (D.means disk.new).read_faults) }
     {

@@ -1,9 +1,9 @@
 // What makes a new volume on a device: its first table and a gate that names it, and then the header.
-ghost use Rattle.std.specs.Prelude.{◌≡◌, ◌+◌, ◌-◌, ◌≤◌, ◌<◌, false, replicate, IsTrue, OnOk, OnErr};
+ghost use Rattle.std.specs.Prelude.{◌≡◌, ◌+◌, ◌-◌, ◌≤◌, ◌<◌, false, [], get_or, replicate, IsTrue, OnOk, OnErr};
 ghost use Rattle.ck_disk.specs.Disk.{LeavesOnly, Reaches, Outside, Agrees, IsSynced, Rose};
 ghost use Rattle.ck_log.specs.Layout.{IsSized, table_blocks, area_at, base_of, size_of};
 ghost use Rattle.ck_log.specs.Images.{part, names_second, recovered_region, HasTable};
-ghost use Rattle.ck_log.specs.Header.{Opens};
+ghost use Rattle.ck_log.specs.Header.{Opens, header_of};
 ghost use Rattle.ck_log.specs.FirstTable.{blank_block, first_block, first_table, WholeOrBefore};
 
 use crate::gate::{GATE, gate_block};
@@ -81,6 +81,7 @@ pub fn make_volume<D: Disk>(disk: &mut D, blocks: u32, records: u32) -> Result<(
     ensures any_moment { LeavesOnly (D.means disk.old) (D.means disk.new) (λ image. IsTrue (D.means disk.old).tells
         → WholeOrBefore (record { blocks = blocks; records = records; second = false }) (D.means disk.old).may_leave image) }
     ensures volume { OnOk result (IsTrue (D.means disk.old).tells → recovered_region (D.means disk.new).shows ≡ Opens (record { blocks = blocks; records = records; second = false })) }
+    ensures header { OnOk result (IsTrue (D.means disk.old).tells → get_or (D.means disk.new).shows 0 [] ≡ header_of blocks records) }
     ensures table { OnOk result (IsTrue (D.means disk.old).tells → HasTable (record { blocks = blocks; records = records; second = false }) (first_table (table_blocks records)) (D.means disk.new).shows) }
     ensures others { IsTrue (D.means disk.old).tells → Agrees (Outside 0 (base_of records)) (D.means disk.old).shows (D.means disk.new).shows }
     ensures synced { OnOk result (IsSynced (D.means disk.new)) }

@@ -6,7 +6,7 @@ use Rattle.ck_log.specs.FirstTable.{WholeOrBefore}
 use Rattle.ck_log.proofs.Areas.{first_area-low}
 use Rattle.ck_log.proofs.Commits.{told_on}
 use Rattle.ck_log.proofs.Recovery.{has_table-agrees}
-use Rattle.ck_log.proofs.Setups.{first_has, new_volume, table_first, header_last}
+use Rattle.ck_log.proofs.Setups.{first_has, header_put, new_volume, table_first, header_last}
 use Rattle.ck_log.proofs.setup.make_volume.Goals as goal
 
 pub returns-in_err-put_first_table-clause-any_moment : goal.returns-in_err-put_first_table-clause-any_moment
@@ -38,3 +38,11 @@ returns-clause-table g c = λ told.
     let told_mid : IsTrue mid.tells = told_on _ _ c.put_first_table.ensures.any_moment.tells told in
     has_table-agrees _ _ (Outside 0 1) mid.shows _ (λ k low lt. inr low) (c.put_block.ensures.others told_mid)
     (first_has c.args.blocks c.args.records mid.shows (c.in_ok-put_first_table.ensures.gate told) (c.in_ok-put_first_table.ensures.table told))
+
+pub returns-clause-header : goal.returns-clause-header
+returns-clause-header g c = λ told.
+    let mid = g.D.Disk.means c.put_first_table.new.disk in
+    let told_mid : IsTrue mid.tells = told_on _ _ c.put_first_table.ensures.any_moment.tells told in
+    let whole = (g.met.D.Disk.lawful c.put_first_table.new.disk).whole told_mid in
+    let some : 0 < length mid.shows = omega (arith, whole, c.put_first_table.ensures.any_moment.size, c.requires.size, first_area-low c.args.records) in
+    header_put c.args.blocks c.args.records mid.shows _ c.header_block.result some c.header_block.ensures (c.in_ok-put_block.ensures.written told_mid)
