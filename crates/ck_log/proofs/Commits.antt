@@ -35,7 +35,7 @@ group_blocks layout entries group some =
     (λ (all : map (λ (e : ℕ × List ℕ). e.0) entries ≡ range_with_len 0 (table_blocks layout.records)). same ∙ ap length all ∙ length-range_with_len 0 (table_blocks layout.records))
     group
 
-module _ (layout : Layout) (before table : Image) (old : Meaning) (settled : IsTrue old.tells → Settled layout before old.may_leave) where
+module _ (layout : Layout) (before table : Image) (old : Meaning) (settled : IsTrue old.tells → (c : Image) → old.may_leave c → HasTable layout before c) where
   abbrev pub Either : Image → Type 0
   Either c = IsTrue old.tells → BeforeOrAfter layout before table old.may_leave c
 
@@ -62,6 +62,15 @@ module _ (layout : Layout) (before table : Image) (old : Meaning) (settled : IsT
         (unnamed run.shows (now old run (Reaches (Outside free n) old.may_leave) law ran run.shows (law.shown told_run)))
         (in_area (written told))
         (subst (λ (d : Image). Agrees (Outside 1 1) d c) (synced_only run law told_run synced from.0 from.1) from.2)))
+
+-- where each image has a table, reads give it
+pub table_shown : (layout : Layout) (blocks : Image) (m : Meaning) → Lawful m → IsTrue m.tells → ((c : Image) → m.may_leave c → HasTable layout blocks c) → table_on layout m.shows ≡ blocks
+table_shown layout blocks m law told all = (all m.shows (law.shown told)).table
+
+pub settles : (layout : Layout) (m : Meaning) → Lawful m → IsSynced m → (IsTrue m.tells → (blocks : Image) × HasTable layout blocks m.shows) → Settled layout m
+settles layout m law synced has told c left =
+    let there = (has told).1 in
+    subst (λ (d : Image). HasTable layout (table_on layout m.shows) d) (sym (synced_only m law told synced c left)) (record { gate = there.gate; table = refl })
 
 -- what reads give outside the gate and both areas
 pub others_after_run : (layout : Layout) (second : Bool) (free n : ℕ) (d c : Image) → free ≡ area_at layout.records second → n ≡ table_blocks layout.records → Agrees (Outside free n) d c → Agrees (Outside 1 (base_of layout.records - 1)) d c

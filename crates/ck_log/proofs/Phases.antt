@@ -3,7 +3,7 @@ use Rattle.std.proofs.Common.{◌≡◌, ◌⊎◌, inl, inr, ⊎_elim, ◌≤�
 use Rattle.ck_disk.specs.Disk.{Image, Agrees, Outside, Reaches}
 use Rattle.ck_disk.proofs.Moments.{agrees_on, agrees_less, agrees_set}
 use Rattle.ck_log.specs.Layout.{Layout, table_blocks, area_at, base_of}
-use Rattle.ck_log.specs.Images.{part, names_second, table_on, HasTable, Settled, BeforeOrAfter}
+use Rattle.ck_log.specs.Images.{part, names_second, table_on, HasTable, BeforeOrAfter}
 use Rattle.ck_log.proofs.Parts.{part_agrees, apart_run}
 use Rattle.ck_log.proofs.Areas.{area_low, other_area, others_area, others_gate, table_at}
 
@@ -36,7 +36,7 @@ module _ (layout : Layout) where
   behind : (s c : Image) (b : Bool) → Agrees (Outside 1 1) s c → in_area b c ≡ in_area b s
   behind s c b same = part_agrees (Outside 1 1) s c (area_at layout.records b) (table_blocks layout.records) same (λ i lt. inr (omega (arith, area_low layout.records b)))
 
-  module _ (before table : Image) (all : Image → Type 0) (settled : Settled layout before all) where
+  module _ (before table : Image) (all : Image → Type 0) (settled : (c : Image) → all c → HasTable layout before c) where
     kept_gate : (c : Image) → Reaches Unnamed all c → names_second c ≡ layout.second
     kept_gate c from = same_gate Unnamed from.0 c (inl (omega (arith, area_low layout.records (not layout.second)))) from.2 ∙ (settled from.0 from.1).gate
 

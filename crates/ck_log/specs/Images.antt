@@ -1,6 +1,6 @@
 -- What an image of a device says of the volume on it.
-use Rattle.std.specs.Prelude.{◌≡◌, ◌⊎◌, ◌+◌, ◌-◌, ℕ, Bool, ◌==◌, [], length, get_or, slice_index, take, drop}
-use Rattle.ck_disk.specs.Disk.{Image, Agrees, Outside, Reaches}
+use Rattle.std.specs.Prelude.{◌≡◌, ◌⊎◌, ◌+◌, ◌-◌, ℕ, Bool, IsTrue, ◌==◌, [], length, get_or, slice_index, take, drop}
+use Rattle.ck_disk.specs.Disk.{Image, Meaning, Outside, Reaches}
 use Rattle.ck_log.specs.Layout.{Layout, table_blocks, area_at, base_of}
 use Rattle.ck_log.specs.Header.{Recovered, recovered_by}
 
@@ -29,9 +29,10 @@ pub record HasTable (layout : Layout) (blocks image : Image) : Type 0 where
   pub gate : names_second image ≡ layout.second
   pub table : table_on layout image ≡ blocks
 
--- each of these images has this table, in this layout's area
-abbrev pub Settled : Layout → Image → (Image → Type 0) → Type 0
-Settled layout blocks all = (image : Image) → all image → HasTable layout blocks image
+-- Each image that a crash may leave has the table that reads give, in this layout's area. It is so once a volume was
+-- formatted or opened, or its table committed.
+abbrev pub Settled : Layout → Meaning → Type 0
+Settled layout m = IsTrue m.tells → (image : Image) → m.may_leave image → HasTable layout (table_on layout m.shows) image
 
 -- The image has the table from before or the new one. But for the gate and the two areas it is an image from before: it
 -- has the same header, and each data block as that one has it.

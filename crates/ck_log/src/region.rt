@@ -50,7 +50,8 @@ impl Region {
         ensures size { OnOk result (size_of blocks records ≤ (D.means disk.old).size) }
         ensures volume { IfOk result (λ region. IsTrue (D.means disk.old).tells → recovered_region (D.means disk.new).shows ≡ Opens region) }
         ensures header { OnOk result (IsTrue (D.means disk.old).tells → get_or (D.means disk.new).shows 0 [] ≡ header_of blocks records) }
-        ensures settled { IfOk result (λ region. IsTrue (D.means disk.old).tells → Settled region (first_table (table_blocks records)) (D.means disk.new).may_leave) }
+        ensures table { IfOk result (λ region. IsTrue (D.means disk.old).tells → table_on region (D.means disk.new).shows ≡ first_table (table_blocks records)) }
+        ensures settled { IfOk result (λ region. Settled region (D.means disk.new)) }
         ensures synced { OnOk result (IsSynced (D.means disk.new)) }
         ensures any_moment { LeavesOnly (D.means disk.old) (D.means disk.new) (λ image. IsTrue (D.means disk.old).tells
             → WholeOrBefore (record { blocks = blocks; records = records; second = false }) (D.means disk.old).may_leave image) }
@@ -81,7 +82,7 @@ impl Region {
         ensures opens { IfOk result (λ region. IsTrue (D.means disk.old).tells → recovered_region (D.means disk.old).shows ≡ Opens region) }
         ensures sized { IfOk result (λ region. IsSized region.blocks region.records) }
         ensures size { IfOk result (λ region. size_of region.blocks region.records ≤ (D.means disk.old).size) }
-        ensures settled { IfOk result (λ region. IsTrue (D.means disk.old).tells → Settled region (table_on region (D.means disk.old).shows) (D.means disk.new).may_leave) }
+        ensures settled { IfOk result (λ region. Settled region (D.means disk.new)) }
         ensures synced { OnOk result (IsSynced (D.means disk.new)) }
         ensures shows { (D.means disk.new).shows ≡ (D.means disk.old).shows }
         ensures marks { KeepsClean (D.means disk.old).written (D.means disk.new).written }
@@ -155,11 +156,12 @@ impl Region {
         requires group { IsGroup self.old (keys group.now) }
 
         // As a format, an opening or a commit that answered Ok left it.
-        requires settled { IsTrue (D.means disk.old).tells → Settled self.old (table_on self.old (D.means disk.old).shows) (D.means disk.old).may_leave }
+        requires settled { Settled self.old (D.means disk.old) }
 
         ensures any_moment { LeavesOnly (D.means disk.old) (D.means disk.new) (λ image. IsTrue (D.means disk.old).tells
             → BeforeOrAfter self.old (table_on self.old (D.means disk.old).shows) (table_after (table_on self.old (D.means disk.old).shows) (values group.now)) (D.means disk.old).may_leave image) }
-        ensures settled { OnOk result (IsTrue (D.means disk.old).tells → Settled self.new (table_after (table_on self.old (D.means disk.old).shows) (values group.now)) (D.means disk.new).may_leave) }
+        ensures table { OnOk result (IsTrue (D.means disk.old).tells → table_on self.new (D.means disk.new).shows ≡ table_after (table_on self.old (D.means disk.old).shows) (values group.now)) }
+        ensures settled { OnOk result (Settled self.new (D.means disk.new)) }
         ensures others { IsTrue (D.means disk.old).tells → Agrees (Outside 1 (base_of self.old.records - 1)) (D.means disk.old).shows (D.means disk.new).shows }
         ensures synced { OnOk result (0 < length (values group.now) → IsSynced (D.means disk.new)) }
         ensures empty { values group.now ≡ [] → disk.new ≡ disk.old }
@@ -181,10 +183,11 @@ impl Region {
     fn put_table<D: Disk>(&self, disk: &mut D, table: &[Block]) -> Result<(), Failed>
         requires whole { length table.now ≡ table_blocks self.now.records }
         requires size { size_of self.now.blocks self.now.records ≤ (D.means disk.old).size }
-        requires settled { IsTrue (D.means disk.old).tells → Settled self.now (table_on self.now (D.means disk.old).shows) (D.means disk.old).may_leave }
+        requires settled { Settled self.now (D.means disk.old) }
         ensures any_moment { LeavesOnly (D.means disk.old) (D.means disk.new) (λ image. IsTrue (D.means disk.old).tells
             → BeforeOrAfter self.now (table_on self.now (D.means disk.old).shows) table.now (D.means disk.old).may_leave image) }
-        ensures settled { OnOk result (IsTrue (D.means disk.old).tells → Settled (record self.now { second = not self.now.second }) table.now (D.means disk.new).may_leave) }
+        ensures table { OnOk result (IsTrue (D.means disk.old).tells → table_on self.now (D.means disk.new).shows ≡ table.now) }
+        ensures settled { OnOk result (Settled (record self.now { second = not self.now.second }) (D.means disk.new)) }
         ensures others { IsTrue (D.means disk.old).tells → Agrees (Outside 1 (base_of self.now.records - 1)) (D.means disk.old).shows (D.means disk.new).shows }
         ensures synced { OnOk result (IsSynced (D.means disk.new)) }
         ensures cause { OnErr result (Rose (D.means disk.old).write_faults (D.means disk.new).write_faults) }

@@ -1,10 +1,9 @@
 use Rattle.std.proofs.Common.{◌≡◌, ◌≤◌, ◌<◌, ◌+◌, ◌==◌, ℕ, Bool, IsTrue, not, List, length, slice_index, refl, sym, ◌∙◌, ap, subst, arith}
 use Rattle.ck_disk.specs.Disk.{Image}
-use Rattle.ck_disk.proofs.Moments.{synced_only}
 use Rattle.ck_log.specs.Layout.{Layout, table_blocks, area_at}
 use Rattle.ck_log.proofs.Areas.{area_high, first_area-low}
 use Rattle.ck_log.proofs.Phases.{committed}
-use Rattle.ck_log.proofs.Commits.{told_on, after_run, after_gate, in_area, others_after_run, others_after_gate}
+use Rattle.ck_log.proofs.Commits.{told_on, settles, after_run, after_gate, in_area, others_after_run, others_after_gate}
 use Rattle.ck_log.proofs.region.Region.put_table.Goals as goal
 
 pub put_run-requires : goal.put_run-requires
@@ -46,17 +45,25 @@ returns-clause-others g c = λ told.
     others_after_gate c.args.self.now _ _ _ (others_after_run c.args.self.now (not c.args.self.now.second) _ _ _ _ area c.requires.whole (c.put_run.ensures.others told))
     (c.put_block.ensures.others (told_on _ _ c.put_run.ensures.any_moment.tells told))
 
-pub returns-clause-settled : goal.returns-clause-settled
-returns-clause-settled g c = λ told image left.
+pub returns-clause-table : goal.returns-clause-table
+returns-clause-table g c = λ told.
     let layout = c.args.self.now in
     let run = g.D.Disk.means c.put_run.new.disk in
     let law = g.met.D.Disk.lawful c.put_run.new.disk in
     let told_run : IsTrue run.tells = told_on _ _ c.put_run.ensures.any_moment.tells told in
-    let told_gated : IsTrue (g.D.Disk.means c.put_block.new.disk).tells = told_on _ _ c.put_block.ensures.any_moment.tells told_run in
     let long : 1 < length run.shows = omega (arith, law.whole told_run, c.put_run.ensures.any_moment.size, first_area-low layout.records, c.requires.size) in
     let area : c.area_at-free.result ≡ area_at layout.records (not layout.second) = c.area_at-free.ensures ∙ ap (λ (l : Layout). area_at l.records (not l.second)) c.self.view_is in
     let byte : (slice_index c.gate_block.result 0 == 71) ≡ not layout.second = c.gate_block.ensures ∙ ap (λ (l : Layout). not l.second) c.self.view_is in
-    let only : image ≡ (g.D.Disk.means c.put_block.new.disk).shows = synced_only _ (g.met.D.Disk.lawful c.put_block.new.disk) told_gated c.in_ok-put_block.ensures.synced image left in
-    committed (record layout { second = not layout.second }) run.shows c.gate_block.result c.args.table.now image long byte
+    (committed (record layout { second = not layout.second }) run.shows c.gate_block.result c.args.table.now _ long byte
     (in_area layout _ c.args.table.now _ c.requires.settled _ _ _ area c.requires.whole c.put_run.ensures.any_moment (c.in_ok-put_run.ensures.written told))
-    (only ∙ c.in_ok-put_block.ensures.written told_run)
+    (c.in_ok-put_block.ensures.written told_run)).table
+
+pub returns-clause-settled : goal.returns-clause-settled
+returns-clause-settled g c =
+    let layout = c.args.self.now in
+    let run = g.D.Disk.means c.put_run.new.disk in
+    let byte : (slice_index c.gate_block.result 0 == 71) ≡ not layout.second = c.gate_block.ensures ∙ ap (λ (l : Layout). not l.second) c.self.view_is in
+    settles (record layout { second = not layout.second }) _ (g.met.D.Disk.lawful c.put_block.new.disk) c.in_ok-put_block.ensures.synced (λ told.
+    let told_run : IsTrue run.tells = told_on _ _ (sym c.put_block.ensures.any_moment.tells) told in
+    let long : 1 < length run.shows = omega (arith, (g.met.D.Disk.lawful c.put_run.new.disk).whole told_run, c.put_run.ensures.any_moment.size, first_area-low layout.records, c.requires.size) in
+    (_, committed (record layout { second = not layout.second }) run.shows c.gate_block.result _ _ long byte refl (c.in_ok-put_block.ensures.written told_run)))
