@@ -5,10 +5,10 @@ use Rattle.std.specs.Int.{w32, from_be_bytes, to_be_bytes}
 use Rattle.std.proofs.lemmas.Nat.{from_be_bytes-to_be_bytes_4}
 use Rattle.std.proofs.lemmas.List.{length-set}
 use Rattle.std.proofs.lemmas.Bool.Decides.{nat_tests}
-use Rattle.ck_disk.specs.Disk.{Image, Meaning, Agrees, Outside, TearsAt}
+use Rattle.ck_disk.specs.Disk.{Image, Meaning, Agrees, Outside, TearsAt, Within}
 use Rattle.ck_log.specs.Layout.{Layout, IsSized, is_sized, table_blocks, area_at, base_of, size_of}
 use Rattle.ck_log.specs.Header.{Recovered, NotVolume, BadFormat, Opens, magic, header_of, number_at, sized_volume, recovered_by}
-use Rattle.ck_log.specs.Images.{names_second, recovered_region, table_on, area_of, HasTable, BeforeOrAfter}
+use Rattle.ck_log.specs.Images.{names_second, recovered_region, table_on, area_of, HasTable, Settled, BeforeOrAfter}
 use Rattle.ck_log.specs.Faults.{IsRefusal, IsOpenFault}
 use Rattle.ck_log.specs.declared.faults.OpenLog.{OpenLog}
 use Rattle.ck_log.specs.declared.faults.OpenLog.TheVariants as open_log
@@ -174,16 +174,36 @@ recovered_region-torn found at old new high torn is c left =
     let from = torn c left in
     ap recovered_region from.3 ∙ recovered_region-set from.0 at from.1 high ∙ is from.0 from.2
 
-pub settled-torn : (layout : Layout) (blocks : Image) (at : ℕ) (old new : Image → Type 0) → base_of layout.records ≤ at → TearsAt at old new → ((c : Image) → old c → HasTable layout blocks c) → (c : Image) → new c → HasTable layout blocks c
-settled-torn layout blocks at old new high torn settled c left =
-    let from = torn c left in
-    let low = area_low layout.records false in
-    let end = area_high layout.records false in
-    let was = settled from.0 from.2 in
-    record {
-      gate = ap names_second from.3 ∙ ap (λ (b : List ℕ). get_or b 0 0 == 71) (get_or-set_other from.0 at 1 from.1 [] (apart low end)) ∙ was.gate;
-      table = ap (table_on layout) from.3 ∙ table_on-set layout from.0 at from.1 high ∙ was.table;
-    }
+torn_gate : (layout : Layout) (image : Image) (at : ℕ) (b : List ℕ) → base_of layout.records ≤ at → names_second (set image at b) ≡ names_second image
+torn_gate layout image at b high = ap (λ (g : List ℕ). get_or g 0 0 == 71) (get_or-set_other image at 1 b [] apart)
   where
-    apart : 2 ≤ area_at layout.records false → area_at layout.records false + table_blocks layout.records ≤ base_of layout.records → 1 ≢ at
-    apart low end e = omega arith
+    low : 2 ≤ area_at layout.records false
+    low = area_low layout.records false
+
+    end : area_at layout.records false + table_blocks layout.records ≤ base_of layout.records
+    end = area_high layout.records false
+
+    apart : 1 ≢ at
+    apart e = omega arith
+
+-- what reads give of the table
+pub table_on-written : (layout : Layout) (old new : Image) (at : ℕ) → base_of layout.records ≤ at → (b : List ℕ) × (new ≡ set old at b) → table_on layout new ≡ table_on layout old
+table_on-written layout old new at high put = ap (table_on layout) put.1 ∙ table_on-set layout old at put.0 high
+
+-- and that the region is settled
+pub settled-write : (layout : Layout) (old new : Meaning) (at : ℕ) → base_of layout.records ≤ at → new.tells ≡ old.tells → TearsAt at old.may_leave new.may_leave
+    → (IsTrue old.tells → (b : List ℕ) × (new.shows ≡ set old.shows at b)) → Settled layout old → Settled layout new
+settled-write layout old new at high tells torn put settled told c left =
+    let told_old : IsTrue old.tells = subst (λ (b : Bool). IsTrue b) tells told in
+    let from = torn c left in
+    let was = settled told_old from.0 from.2 in
+    record {
+      gate = ap names_second from.3 ∙ torn_gate layout from.0 at from.1 high ∙ was.gate;
+      table = ap (table_on layout) from.3 ∙ table_on-set layout from.0 at from.1 high ∙ was.table ∙ sym (table_on-written layout old.shows new.shows at high (put told_old));
+    }
+
+-- a read or a sync leaves it so too
+pub settled-keeps : (layout : Layout) (old new : Meaning) → new.tells ≡ old.tells → new.shows ≡ old.shows → Within new.may_leave old.may_leave → Settled layout old → Settled layout new
+settled-keeps layout old new tells shows within settled told c left =
+    let was = settled (subst (λ (b : Bool). IsTrue b) tells told) c (within c left) in
+    record { gate = was.gate; table = was.table ∙ ap (table_on layout) (sym shows) }

@@ -48,3 +48,74 @@ fn a_volume_is_formatted_and_opened(rt: HostRuntime) -> Result<(), Fail> {
     assert_eq!(rt; block[128], 4);
     Ok(())
 }
+
+#[test]
+fn commits_replace_the_table_as_a_whole(rt: HostRuntime) -> Result<(), Fail> {
+    let mut disk = device(rt.alloc(), 8, 0)?;
+    let mut region = Region::format(&mut disk, 1, 32)?;
+    let mut block = [0; 4096];
+    region.commit(&mut disk, &group_of(rt.alloc(), 3, 4)?)?;
+    region.read(&mut disk, 1, &mut block)?;
+    assert_eq!(rt; block, [4; 4096]);
+    region.commit(&mut disk, &group_of(rt.alloc(), 5, 6)?)?;
+    region.read(&mut disk, 0, &mut block)?;
+    assert_eq!(rt; block, [5; 4096]);
+    region.commit(&mut disk, &IndexMap::new(rt.alloc()))?;
+    region.read(&mut disk, 1, &mut block)?;
+    assert_eq!(rt; block, [6; 4096]);
+    Ok(())
+}
+
+#[test]
+fn a_stop_in_the_write_of_the_gate_leaves_one_table_or_the_other(
+    rt: HostRuntime,
+) -> Result<(), Fail> {
+    // Six calls make the volume. The group's two blocks and their sync are three more, and the gate is next.
+    for (byte, first) in [(0x47, 5), (0x46, 1), (0, 1)] {
+        let mut disk = device(rt.alloc(), 8, 10)?;
+        let mut region = Region::format(&mut disk, 1, 32)?;
+        let group = group_of(rt.alloc(), 5, 6)?;
+        assert!(rt; region.commit(&mut disk, &group).is_err());
+        let mut torn = Vec::new(rt.alloc());
+        let bytes = [byte; 4096];
+        torn.push(Torn { at: 1, bytes })?;
+        let mut crashed = disk.crash(torn);
+        let opened = Region::open_on(&mut crashed)?;
+        let mut block = [0; 4096];
+        opened.read(&mut crashed, 0, &mut block)?;
+        assert_eq!(rt; block[0], first);
+    }
+    Ok(())
+}
+
+#[test]
+fn a_device_that_is_too_short_is_not_formatted(rt: HostRuntime) -> Result<(), Fail> {
+    let mut disk = device(rt.alloc(), 84, 0)?;
+    let short = FormatLog::BadSize { needs: 85, has: 84 };
+    assert_eq!(rt; Region::format(&mut disk, 64, 256).err(), Some(short));
+    let mut failing = device(rt.alloc(), 85, 6)?;
+    assert_eq!(rt;
+        Region::format(&mut failing, 64, 256).err(),
+        Some(FormatLog::WriteFault)
+    );
+    Ok(())
+}
+
+#[test]
+fn only_a_volume_is_opened(rt: HostRuntime) -> Result<(), Fail> {
+    let mut none = device(rt.alloc(), 0, 0)?;
+    assert_eq!(rt; Region::open_on(&mut none).err(), Some(OpenLog::NotVolume));
+    let mut disk = device(rt.alloc(), 85, 4)?;
+    assert_eq!(rt; Region::open_on(&mut disk).err(), Some(OpenLog::NotVolume));
+    // The magic, and then the format.
+    let mut header = [0; 4096];
+    header[..8].copy_from_slice(b"CKPTVOL1");
+    header[11] = 7;
+    disk.write(0, &header)?;
+    assert_eq!(rt; Region::open_on(&mut disk).err(), Some(OpenLog::WriteFault));
+    assert_eq!(rt; Region::open_on(&mut disk).err(), Some(OpenLog::BadFormat(7)));
+    // Without the format's number, no data blocks and no records are stated.
+    disk.write(0, &[0; 4096])?;
+    assert_eq!(rt; Region::open_on(&mut disk).err(), Some(OpenLog::NotVolume));
+    Ok(())
+}
