@@ -59,9 +59,13 @@ module _ (layout : Layout) where
           (λ (is : names_second c ≡ layout.second). inl (table_at layout c layout.second is ∙ behind s c layout.second same ∙ kept_table s from))
           (λ (is : names_second c ≡ not layout.second). inr (table_at layout c (not layout.second) is ∙ behind s c (not layout.second) same ∙ written))
           (one_or_other (names_second c) layout.second);
-      others = (from.0, from.1, agrees_on (Outside 1 (base_of layout.records - 1)) from.0 s c
-          (agrees_less Unnamed (Outside 1 (base_of layout.records - 1)) from.0 s (others_area layout.records (not layout.second)) from.2)
-          (agrees_less (Outside 1 1) (Outside 1 (base_of layout.records - 1)) s c (others_gate layout.records) same));
+      others = (
+        from.0,
+        from.1,
+        agrees_on (Outside 1 (base_of layout.records - 1)) from.0 s c
+            (agrees_less Unnamed (Outside 1 (base_of layout.records - 1)) from.0 s (others_area layout.records (not layout.second)) from.2)
+            (agrees_less (Outside 1 1) (Outside 1 (base_of layout.records - 1)) s c (others_gate layout.records) same),
+      );
     }
 
   -- once the gate is written

@@ -67,9 +67,13 @@ pub while_header : (layout : Layout) (all : Image → Type 0) (s c : Image) → 
     → Reaches (Outside 1 (base_of layout.records - 1)) all s → Agrees (Outside 0 1) s c → WholeOrBefore layout all c
 while_header layout all s c has from same = record {
   header = inr (has_table-agrees layout (first_table (table_blocks layout.records)) (Outside 0 1) s c (λ k low lt. inr low) same has);
-  others = (from.0, from.1, agrees_on (Outside 0 (base_of layout.records)) from.0 s c
-      (agrees_less (Outside 1 (base_of layout.records - 1)) (Outside 0 (base_of layout.records)) from.0 s (above layout.records) from.2)
-      (agrees_less (Outside 0 1) (Outside 0 (base_of layout.records)) s c (behind_header layout.records) same));
+  others = (
+    from.0,
+    from.1,
+    agrees_on (Outside 0 (base_of layout.records)) from.0 s c
+        (agrees_less (Outside 1 (base_of layout.records - 1)) (Outside 0 (base_of layout.records)) from.0 s (above layout.records) from.2)
+        (agrees_less (Outside 0 1) (Outside 0 (base_of layout.records)) s c (behind_header layout.records) same),
+  );
 }
 
 -- a gate that names the first area, with the table there

