@@ -1,5 +1,5 @@
 -- Where the two areas lie.
-use Rattle.std.proofs.Common.{◌≡◌, ◌⊎◌, inl, inr, ⊎_elim, ◌≤◌, ◌<◌, ◌+◌, ◌*◌, ◌-◌, ℕ, Bool, true, false, not, sym, ap, subst, arith}
+use Rattle.std.proofs.Common.{◌≡◌, inl, inr, ⊎_elim, ◌≤◌, ◌<◌, ◌+◌, ◌*◌, ◌-◌, ℕ, Bool, true, false, not, sym, ap, subst, arith}
 use Rattle.ck_disk.specs.Disk.{Image, Outside}
 use Rattle.ck_log.specs.Layout.{Layout, table_blocks, first_area, area_at, base_of}
 use Rattle.ck_log.specs.Images.{part, names_second, table_on}

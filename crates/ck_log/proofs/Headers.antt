@@ -1,8 +1,8 @@
 -- The header's fields, as they are written and read.
-use Rattle.std.proofs.Common.{◌≡◌, ℕ, ◌+◌, ◌-◌, ◌*◌, ◌^◌, ◌<◌, ◌≤◌, List, [], ◌∷◌, ◌++◌, length, take, drop, replicate, refl, sym, ap, ◌∙◌, append_assoc, arith, length-append, lit≤}
-use Rattle.std.specs.Int.{w32, from_be_bytes, to_be_bytes}
-use Rattle.std.proofs.lemmas.List.{take_at, drop_at, drop-drop, drop-replicate, length-replicate, length-take}
-use Rattle.ck_num.specs.Field.{field, with_field}
+use Rattle.std.proofs.Common.{◌≡◌, ℕ, ◌+◌, List, ◌++◌, length, drop, replicate, refl, sym, ap, ◌∙◌, arith}
+use Rattle.std.specs.Int.{w32, to_be_bytes}
+use Rattle.std.proofs.lemmas.List.{take_at, drop_at, drop-drop, drop-replicate}
+use Rattle.ck_num.specs.Field.{with_field}
 use Rattle.ck_log.specs.Header.{magic, header_of}
 
 -- what is written at the end of what stands there takes the place of as many zeros

@@ -1,6 +1,6 @@
 -- One run of writes within another.
 use Rattle.std.proofs.Common.{ℕ}
-use Rattle.ck_disk.specs.Disk.{Image, Meaning, Lawful, LeavesOnly, Reaches, Agrees}
+use Rattle.ck_disk.specs.Disk.{Image, Meaning, Lawful, LeavesOnly, Reaches}
 use Rattle.ck_disk.proofs.Moments.{started, weakens, joins, now, agrees_same, agrees_less, agrees_on}
 
 -- before the first write

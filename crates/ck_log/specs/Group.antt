@@ -1,5 +1,5 @@
 -- A group of table blocks that are committed together.
-use Rattle.std.specs.Prelude.{◌≡◌, ◌⊎◌, ℕ, List, [], ◌∷◌, length}
+use Rattle.std.specs.Prelude.{◌≡◌, ◌⊎◌, ℕ, List, [], ◌∷◌}
 use Rattle.std.specs.List.{range_with_len}
 use Rattle.ck_disk.specs.Disk.{Image}
 use Rattle.ck_log.specs.Layout.{Layout, table_blocks}

@@ -1,5 +1,5 @@
 -- What an image of a device says of the volume on it.
-use Rattle.std.specs.Prelude.{◌≡◌, ◌⊎◌, ◌+◌, ◌-◌, ℕ, Bool, IsTrue, ◌==◌, [], length, get_or, slice_index, take, drop}
+use Rattle.std.specs.Prelude.{◌≡◌, ◌⊎◌, ◌-◌, ℕ, Bool, IsTrue, ◌==◌, [], length, get_or, slice_index, take, drop}
 use Rattle.ck_disk.specs.Disk.{Image, Meaning, Outside, Reaches}
 use Rattle.ck_log.specs.Layout.{Layout, table_blocks, area_at, base_of}
 use Rattle.ck_log.specs.Header.{Recovered, recovered_by}

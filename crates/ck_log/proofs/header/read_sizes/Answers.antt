@@ -1,4 +1,4 @@
-use Rattle.std.proofs.Common.{IsTrue, get_or, [], sym, ◌∙◌}
+use Rattle.std.proofs.Common.{IsTrue, sym, ◌∙◌}
 use Rattle.ck_log.proofs.Recovery.{sizes_read, refusal_read}
 use Rattle.ck_log.proofs.header.read_sizes.Goals as goal
 

@@ -1,5 +1,5 @@
 use Rattle.std.proofs.Common.{ℕ, List, ◌∙◌, ap}
-use Rattle.std.specs.Int.{w32, w64, to_be_bytes}
+use Rattle.std.specs.Int.{w32, to_be_bytes}
 use Rattle.ck_num.specs.Field.{with_field}
 use Rattle.ck_log.specs.FirstTable.{first_block}
 use Rattle.ck_log.proofs.setup.first_block.Goals as goal

@@ -1,8 +1,6 @@
-use Rattle.std.proofs.Common.{◌≡◌, ◌<◌, ◌≤◌, ◌-◌, ◌∙◌, sym, subst, IsTrue, inr, length, arith}
-use Rattle.ck_disk.specs.Disk.{Image, LeavesOnly, Reaches, Outside, Agrees}
-use Rattle.ck_disk.proofs.Moments.{weakens, joins, now, synced_only}
-use Rattle.ck_log.specs.Layout.{Layout, base_of, size_of}
-use Rattle.ck_log.specs.FirstTable.{WholeOrBefore}
+use Rattle.std.proofs.Common.{◌<◌, ◌≤◌, IsTrue, inr, length, arith}
+use Rattle.ck_disk.specs.Disk.{Outside}
+use Rattle.ck_log.specs.Layout.{size_of}
 use Rattle.ck_log.proofs.Areas.{first_area-low}
 use Rattle.ck_log.proofs.Commits.{told_on}
 use Rattle.ck_log.proofs.Recovery.{has_table-agrees}

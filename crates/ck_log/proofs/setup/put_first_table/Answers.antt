@@ -1,5 +1,4 @@
-use Rattle.std.proofs.Common.{◌≡◌, ◌≤◌, ◌<◌, IsTrue, false, length, ◌∙◌, ap, arith}
-use Rattle.ck_disk.specs.Disk.{Image, LeavesOnly, Reaches, Outside, Agrees}
+use Rattle.std.proofs.Common.{◌<◌, false, length, ◌∙◌, ap, arith}
 use Rattle.ck_disk.proofs.Moments.{keeps_on}
 use Rattle.ck_log.specs.Images.{names_second}
 use Rattle.ck_log.proofs.Areas.{outside_area, first_area-low}

@@ -1,6 +1,4 @@
-use Rattle.std.proofs.Common.{◌≡◌, ◌<◌, IsTrue, length, set, ◌∙◌, ap, subst, sym, arith}
-use Rattle.ck_disk.specs.Disk.{Image}
-use Rattle.ck_log.specs.FirstTable.{first_block}
+use Rattle.std.proofs.Common.{◌<◌, IsTrue, length, set, ◌∙◌, ap, arith}
 use Rattle.ck_log.proofs.Commits.{told_on}
 use Rattle.ck_log.proofs.Setups.{apart_first, outside_rest, first_written, write_run_on}
 use Rattle.ck_log.proofs.setup.write_first_table.Goals as goal

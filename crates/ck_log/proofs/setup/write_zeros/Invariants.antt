@@ -1,4 +1,4 @@
-use Rattle.std.proofs.Common.{◌≡◌, ◌+◌, take, replicate, IsTrue}
+use Rattle.std.proofs.Common.{◌≡◌, take, replicate, IsTrue}
 use Rattle.ck_disk.specs.Disk.{LeavesOnly, Reaches, Outside, Agrees}
 use Rattle.ck_log.specs.Images.{part}
 use Rattle.ck_log.specs.FirstTable.{blank_block}

@@ -1,4 +1,4 @@
-use Rattle.std.proofs.Common.{IsTrue, false, sym}
+use Rattle.std.proofs.Common.{false, sym}
 use Rattle.ck_log.proofs.Commits.{told_on, settles}
 use Rattle.ck_log.proofs.region.Region.format.Goals as goal
 

@@ -1,6 +1,5 @@
-use Rattle.std.proofs.Common.{◌≡◌, ◌≤◌, ◌<◌, ◌+◌, ◌==◌, ℕ, Bool, IsTrue, not, List, length, slice_index, refl, sym, ◌∙◌, ap, subst, arith}
-use Rattle.ck_disk.specs.Disk.{Image}
-use Rattle.ck_log.specs.Layout.{Layout, table_blocks, area_at}
+use Rattle.std.proofs.Common.{◌≡◌, ◌<◌, ◌==◌, IsTrue, not, length, slice_index, refl, sym, ◌∙◌, ap, arith}
+use Rattle.ck_log.specs.Layout.{Layout, area_at}
 use Rattle.ck_log.proofs.Areas.{area_high, first_area-low}
 use Rattle.ck_log.proofs.Phases.{committed}
 use Rattle.ck_log.proofs.Commits.{told_on, settles, after_run, after_gate, in_area, others_after_run, others_after_gate}
