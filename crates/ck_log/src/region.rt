@@ -1,13 +1,13 @@
-ghost use Rattle.std.specs.Prelude.{◌≡◌, ◌≤◌, ◌<◌, ◌-◌, not, false, Err, [], length, get_or, IsTrue, IfOk, IfErr, OnOk, OnErr};
+ghost use Rattle.std.specs.Prelude.{◌≡◌, ◌≤◌, ◌<◌, ◌-◌, ◌==◌, not, Err, [], length, get_or, slice_index, IsTrue, IfOk, IfErr, OnOk, OnErr};
 ghost use Rattle.indexmap.specs.IndexMap.{keys, values};
 ghost use Rattle.ck_disk.specs.Disk.{LeavesOnly, Agrees, Outside, IsSynced, KeepsClean, Rose};
-ghost use Rattle.ck_log.specs.Layout.{table_blocks, base_of, size_of};
-ghost use Rattle.ck_log.specs.Images.{recovered_region, table_on, area_of, Settled, BeforeOrAfter};
+ghost use Rattle.ck_log.specs.Layout.{table_blocks, area_at, base_of, size_of};
+ghost use Rattle.ck_log.specs.Images.{recovered_region, table_on, area_of, Settled};
 ghost use Rattle.ck_log.specs.Reads.{OnlyReads};
-ghost use Rattle.ck_log.specs.FirstTable.{first_table, WholeOrBefore};
+ghost use Rattle.ck_log.specs.FirstTable.{first_table, new_layout, FormatLeaves};
 ghost use Rattle.ck_log.specs.Header.{Opens, header_of};
 ghost use Rattle.ck_log.specs.Faults.{IsFormatFault, IsOpenFault};
-ghost use Rattle.ck_log.specs.Group.{IsGroup, table_after};
+ghost use Rattle.ck_log.specs.Group.{IsGroup, table_after, CommitLeaves};
 
 use crate::faults::{FormatLog, OpenLog};
 use crate::gate::{GATE, gate_block, read_gate};
@@ -46,15 +46,14 @@ impl Region {
     /// Makes a volume on the device, with the root directory alone.
     pub fn format<D: Disk>(disk: &mut D, blocks: u32, records: u32) -> Result<Region, FormatLog>
         requires { IsSized blocks records }
-        ensures region { IfOk result (λ region. region ≡ record { blocks = blocks; records = records; second = false }) }
+        ensures region { IfOk result (λ region. region ≡ new_layout blocks records) }
         ensures size { OnOk result (size_of blocks records ≤ (D.means disk.old).size) }
         ensures volume { IfOk result (λ region. IsTrue (D.means disk.old).tells → recovered_region (D.means disk.new).shows ≡ Opens region) }
         ensures header { OnOk result (IsTrue (D.means disk.old).tells → get_or (D.means disk.new).shows 0 [] ≡ header_of blocks records) }
         ensures table { IfOk result (λ region. IsTrue (D.means disk.old).tells → table_on region (D.means disk.new).shows ≡ first_table (table_blocks records)) }
         ensures settled { IfOk result (λ region. Settled region (D.means disk.new)) }
         ensures synced { OnOk result (IsSynced (D.means disk.new)) }
-        ensures any_moment { LeavesOnly (D.means disk.old) (D.means disk.new) (λ image. IsTrue (D.means disk.old).tells
-            → WholeOrBefore (record { blocks = blocks; records = records; second = false }) (D.means disk.old).may_leave image) }
+        ensures any_moment { LeavesOnly (D.means disk.old) (D.means disk.new) (FormatLeaves (new_layout blocks records) (D.means disk.old)) }
         ensures others { IsTrue (D.means disk.old).tells → Agrees (Outside 0 (base_of records)) (D.means disk.old).shows (D.means disk.new).shows }
 
         // A device that is too short is left as it is.
@@ -158,8 +157,8 @@ impl Region {
         // As a format, an opening or a commit that answered Ok left it.
         requires settled { Settled self.old (D.means disk.old) }
 
-        ensures any_moment { LeavesOnly (D.means disk.old) (D.means disk.new) (λ image. IsTrue (D.means disk.old).tells
-            → BeforeOrAfter self.old (table_on self.old (D.means disk.old).shows) (table_after (table_on self.old (D.means disk.old).shows) (values group.now)) (D.means disk.old).may_leave image) }
+        ensures any_moment { LeavesOnly (D.means disk.old) (D.means disk.new)
+            (CommitLeaves self.old (table_after (table_on self.old (D.means disk.old).shows) (values group.now)) (D.means disk.old)) }
         ensures table { OnOk result (IsTrue (D.means disk.old).tells → table_on self.new (D.means disk.new).shows ≡ table_after (table_on self.old (D.means disk.old).shows) (values group.now)) }
         ensures settled { OnOk result (Settled self.new (D.means disk.new)) }
         ensures others { IsTrue (D.means disk.old).tells → Agrees (Outside 1 (base_of self.old.records - 1)) (D.means disk.old).shows (D.means disk.new).shows }
@@ -184,17 +183,29 @@ impl Region {
         requires whole { length table.now ≡ table_blocks self.now.records }
         requires size { size_of self.now.blocks self.now.records ≤ (D.means disk.old).size }
         requires settled { Settled self.now (D.means disk.old) }
-        ensures any_moment { LeavesOnly (D.means disk.old) (D.means disk.new) (λ image. IsTrue (D.means disk.old).tells
-            → BeforeOrAfter self.now (table_on self.now (D.means disk.old).shows) table.now (D.means disk.old).may_leave image) }
+        ensures any_moment { LeavesOnly (D.means disk.old) (D.means disk.new) (CommitLeaves self.now table.now (D.means disk.old)) }
         ensures table { OnOk result (IsTrue (D.means disk.old).tells → table_on self.now (D.means disk.new).shows ≡ table.now) }
         ensures settled { OnOk result (Settled (record self.now { second = not self.now.second }) (D.means disk.new)) }
         ensures others { IsTrue (D.means disk.old).tells → Agrees (Outside 1 (base_of self.now.records - 1)) (D.means disk.old).shows (D.means disk.new).shows }
         ensures synced { OnOk result (IsSynced (D.means disk.new)) }
         ensures cause { OnErr result (Rose (D.means disk.old).write_faults (D.means disk.new).write_faults) }
     {
-        let free = area_at(self.records, !self.second);
-        put_run(disk, free, table)?;
-        put_block(disk, GATE, &gate_block(!self.second))?;
+        put_run(disk, self.free_area(), table)?;
+        put_block(disk, GATE, &self.next_gate())?;
         Ok(())
+    }
+
+    /// The first block of the area that the gate doesn't name.
+    fn free_area(&self) -> u32
+        ensures { result ≡ area_at self.now.records (not self.now.second) }
+    {
+        area_at(self.records, !self.second)
+    }
+
+    /// A gate that names that area.
+    fn next_gate(&self) -> Block
+        ensures { (slice_index result 0 == 71) ≡ not self.now.second }
+    {
+        gate_block(!self.second)
     }
 }

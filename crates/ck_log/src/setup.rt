@@ -4,7 +4,7 @@ ghost use Rattle.ck_disk.specs.Disk.{LeavesOnly, Reaches, Outside, Agrees, IsSyn
 ghost use Rattle.ck_log.specs.Layout.{IsSized, table_blocks, area_at, base_of, size_of};
 ghost use Rattle.ck_log.specs.Images.{part, names_second, recovered_region, HasTable};
 ghost use Rattle.ck_log.specs.Header.{Opens, header_of};
-ghost use Rattle.ck_log.specs.FirstTable.{blank_block, first_block, first_table, WholeOrBefore};
+ghost use Rattle.ck_log.specs.FirstTable.{blank_block, first_block, first_table, new_layout, FormatLeaves};
 
 use crate::gate::{GATE, gate_block};
 use crate::header::{HEADER, header_block};
@@ -78,11 +78,10 @@ fn put_first_table<D: Disk>(disk: &mut D, records: u32) -> Result<(), Failed>
 pub fn make_volume<D: Disk>(disk: &mut D, blocks: u32, records: u32) -> Result<(), Failed>
     requires sized { IsSized blocks records }
     requires size { size_of blocks records ≤ (D.means disk.old).size }
-    ensures any_moment { LeavesOnly (D.means disk.old) (D.means disk.new) (λ image. IsTrue (D.means disk.old).tells
-        → WholeOrBefore (record { blocks = blocks; records = records; second = false }) (D.means disk.old).may_leave image) }
-    ensures volume { OnOk result (IsTrue (D.means disk.old).tells → recovered_region (D.means disk.new).shows ≡ Opens (record { blocks = blocks; records = records; second = false })) }
+    ensures any_moment { LeavesOnly (D.means disk.old) (D.means disk.new) (FormatLeaves (new_layout blocks records) (D.means disk.old)) }
+    ensures volume { OnOk result (IsTrue (D.means disk.old).tells → recovered_region (D.means disk.new).shows ≡ Opens (new_layout blocks records)) }
     ensures header { OnOk result (IsTrue (D.means disk.old).tells → get_or (D.means disk.new).shows 0 [] ≡ header_of blocks records) }
-    ensures table { OnOk result (IsTrue (D.means disk.old).tells → HasTable (record { blocks = blocks; records = records; second = false }) (first_table (table_blocks records)) (D.means disk.new).shows) }
+    ensures table { OnOk result (IsTrue (D.means disk.old).tells → HasTable (new_layout blocks records) (first_table (table_blocks records)) (D.means disk.new).shows) }
     ensures others { IsTrue (D.means disk.old).tells → Agrees (Outside 0 (base_of records)) (D.means disk.old).shows (D.means disk.new).shows }
     ensures synced { OnOk result (IsSynced (D.means disk.new)) }
     ensures cause { OnErr result (Rose (D.means disk.old).write_faults (D.means disk.new).write_faults) }
