@@ -3,7 +3,7 @@ use Rattle.std.proofs.Common.{◌≡◌, ◌⊎◌, inl, inr, ⊎_elim, ◌<◌,
 use Rattle.ck_disk.specs.Disk.{Image, Agrees, Outside, Reaches}
 use Rattle.ck_disk.proofs.Moments.{agrees_on, agrees_less, agrees_set}
 use Rattle.ck_log.specs.Layout.{Layout, table_blocks, area_at, base_of}
-use Rattle.ck_log.specs.Images.{part, names_second, HasTable, BeforeOrAfter}
+use Rattle.ck_log.specs.Images.{part, names_second, HasTable, HasBefore, HasAfter}
 use Rattle.ck_log.proofs.Parts.{part_agrees, apart_run}
 use Rattle.ck_log.proofs.Areas.{area_low, other_area, others_area, others_gate, table_at}
 
@@ -45,28 +45,32 @@ module _ (layout : Layout) where
         part_agrees Unnamed from.0 c (area_at layout.records layout.second) (table_blocks layout.records) from.2 (other_area layout.records layout.second)
         ∙ sym (table_at layout from.0 layout.second (settled from.0 from.1).gate) ∙ (settled from.0 from.1).table
 
+    abbrev Others : ℕ → Type 0
+    Others = Outside 1 (base_of layout.records - 1)
+
     -- while the other area is written
-    pub staged : (c : Image) → Reaches Unnamed all c → BeforeOrAfter layout before table all c
+    pub staged : (c : Image) → Reaches Unnamed all c → HasBefore layout before all c
     staged c from = record {
-      table = inl (table_at layout c layout.second (kept_gate c from) ∙ kept_table c from);
-      others = (from.0, from.1, agrees_less Unnamed (Outside 1 (base_of layout.records - 1)) from.0 c (others_area layout.records (not layout.second)) from.2);
+      table = table_at layout c layout.second (kept_gate c from) ∙ kept_table c from;
+      others = (from.0, from.1, agrees_less Unnamed Others from.0 c (others_area layout.records (not layout.second)) from.2);
     }
 
     -- while the gate is written, whatever it holds
-    pub opened : (s c : Image) → Reaches Unnamed all s → in_area (not layout.second) s ≡ table → Agrees (Outside 1 1) s c → BeforeOrAfter layout before table all c
-    opened s c from written same = record {
-      table = ⊎_elim
-          (λ (is : names_second c ≡ layout.second). inl (table_at layout c layout.second is ∙ behind s c layout.second same ∙ kept_table s from))
-          (λ (is : names_second c ≡ not layout.second). inr (table_at layout c (not layout.second) is ∙ behind s c (not layout.second) same ∙ written))
-          (one_or_other (names_second c) layout.second);
-      others = (
-        from.0,
-        from.1,
-        agrees_on (Outside 1 (base_of layout.records - 1)) from.0 s c
-            (agrees_less Unnamed (Outside 1 (base_of layout.records - 1)) from.0 s (others_area layout.records (not layout.second)) from.2)
-            (agrees_less (Outside 1 1) (Outside 1 (base_of layout.records - 1)) s c (others_gate layout.records) same),
-      );
-    }
+    pub opened : (shows s c : Image) → Reaches Unnamed all s → Agrees Others shows s → in_area (not layout.second) s ≡ table → Agrees (Outside 1 1) s c
+        → HasBefore layout before all c ⊎ HasAfter layout table shows c
+    opened shows s c from stands written same = ⊎_elim
+        (λ (is : names_second c ≡ layout.second). inl (record {
+          table = table_at layout c layout.second is ∙ behind s c layout.second same ∙ kept_table s from;
+          others = (from.0, from.1, agrees_on Others from.0 s c (agrees_less Unnamed Others from.0 s (others_area layout.records (not layout.second)) from.2) gated);
+        }))
+        (λ (is : names_second c ≡ not layout.second). inr (record {
+          table = table_at layout c (not layout.second) is ∙ behind s c (not layout.second) same ∙ written;
+          others = agrees_on Others shows s c stands gated;
+        }))
+        (one_or_other (names_second c) layout.second)
+      where
+        gated : Agrees Others s c
+        gated = agrees_less (Outside 1 1) Others s c (others_gate layout.records) same
 
   -- once the gate is written
   pub committed : (s : Image) (gate : List ℕ) (table c : Image) → 1 < length s → (get_or gate 0 0 == 71) ≡ layout.second → in_area layout.second s ≡ table → c ≡ set s 1 gate → HasTable layout table c

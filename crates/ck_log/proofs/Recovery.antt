@@ -1,13 +1,13 @@
 -- What an image says of its volume, and which changes to the image leave that as it was.
-use Rattle.std.proofs.Common.{◌≡◌, ◌≢◌, inl, ◌≤◌, ◌<◌, ◌+◌, ◌-◌, ◌&&◌, ◌==◌, nat_le, ℕ, Bool, true, false, not, IsTrue, bytes_eq, if◌then◌else◌, List, [], length, take, get_or, set, refl, sym, ◌∙◌, ap, subst, arith, get_or-set_other}
+use Rattle.std.proofs.Common.{◌≡◌, ◌≢◌, inl, ⊎_elim, ◌≤◌, ◌<◌, ◌+◌, ◌-◌, ◌&&◌, ◌==◌, nat_le, ℕ, Bool, true, false, not, IsTrue, bytes_eq, if◌then◌else◌, List, [], length, take, get_or, set, refl, sym, ◌∙◌, ap, subst, arith, get_or-set_other}
 use Rattle.std.specs.Prelude.{Result, Ok, Err, IfOk, IfErr}
 use Rattle.std.proofs.lemmas.Nat.{from_be_bytes-to_be_bytes_4}
 use Rattle.std.proofs.lemmas.List.{length-set}
 use Rattle.std.proofs.lemmas.Bool.Decides.{nat_tests}
-use Rattle.ck_disk.specs.Disk.{Image, Meaning, Agrees, Outside, TearsAt, Within}
+use Rattle.ck_disk.specs.Disk.{Image, Meaning, Lawful, Agrees, Outside, TearsAt, Within}
 use Rattle.ck_log.specs.Layout.{Layout, IsSized, is_sized, table_blocks, area_at, base_of, size_of}
 use Rattle.ck_log.specs.Header.{Recovered, NotVolume, BadFormat, Opens, magic, header_of, number_at, sized_volume, recovered_by}
-use Rattle.ck_log.specs.Images.{names_second, recovered_region, table_on, area_of, HasTable, Settled, BeforeOrAfter}
+use Rattle.ck_log.specs.Images.{names_second, recovered_region, table_on, area_of, HasTable, HasBefore, HasAfter, Settled, CommitLeaves}
 use Rattle.ck_log.specs.Faults.{IsRefusal, IsOpenFault}
 use Rattle.ck_log.specs.declared.faults.OpenLog.{OpenLog}
 use Rattle.ck_log.specs.declared.faults.OpenLog.TheVariants as open_log
@@ -139,11 +139,14 @@ area_of-has layout blocks c has = sym (table_at layout c layout.second has.gate)
 -- ---- a commit
 
 -- each image of a commit has the volume from before, with the area that its own gate names
-pub recovered_region-between : (layout : Layout) (before after : Image) (all : Image → Type 0) → ((d : Image) → all d → recovered_region d ≡ Opens layout) → (c : Image) → BeforeOrAfter layout before after all c
-    → recovered_region c ≡ Opens (record layout { second = names_second c })
-recovered_region-between layout before after all is c between =
-    let from = between.others in
-    recovered_region-gate layout (Outside 1 (base_of layout.records - 1)) from.0 c (inl (omega arith)) from.2 (is from.0 from.1)
+pub recovered_region-commit : (layout : Layout) (after : Image) (old : Meaning) → Lawful old → IsTrue old.tells → ((d : Image) → old.may_leave d → recovered_region d ≡ Opens layout)
+    → (c : Image) → CommitLeaves layout after old c → recovered_region c ≡ Opens (record layout { second = names_second c })
+recovered_region-commit layout after old law told is c leaves =
+    let K = Outside 1 (base_of layout.records - 1) in
+    ⊎_elim
+    (λ (has : HasBefore layout (table_on layout old.shows) old.may_leave c). recovered_region-gate layout K has.others.0 c (inl (omega arith)) has.others.2 (is has.others.0 has.others.1))
+    (λ (has : HasAfter layout after old.shows c). recovered_region-gate layout K old.shows c (inl (omega arith)) has.others (is old.shows (law.shown told)))
+    (leaves told)
 
 -- and once it is done, the volume with the area that the region names
 pub recovered_region-settled : (layout : Layout) (second : Bool) (blocks c : Image) → recovered_region c ≡ Opens (record layout { second = names_second c }) → HasTable (record layout { second = second }) blocks c

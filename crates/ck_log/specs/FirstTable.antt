@@ -31,7 +31,8 @@ new_layout blocks records = record { blocks = blocks; records = records; second 
 -- While a volume is made, an image has a header from before, or it has the whole new table. Behind both areas it is an
 -- image from before.
 pub record WholeOrBefore (layout : Layout) (all : Image → Type 0) (image : Image) : Type 0 where
-  pub header : (Reaches (Outside 1 (base_of layout.records - 1)) all image) ⊎ HasTable layout (first_table (table_blocks layout.records)) image
+  pub header : (Reaches (Outside 1 (base_of layout.records - 1)) all image)
+      ⊎ HasTable layout (first_table (table_blocks layout.records)) image
   pub others : Reaches (Outside 0 (base_of layout.records)) all image
 
 -- what a crash leaves while a volume is made, at any moment of it

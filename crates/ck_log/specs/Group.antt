@@ -1,9 +1,8 @@
 -- A group of table blocks that are committed together.
-use Rattle.std.specs.Prelude.{◌≡◌, ◌⊎◌, ℕ, IsTrue, List, [], ◌∷◌}
+use Rattle.std.specs.Prelude.{◌≡◌, ◌⊎◌, ℕ, List, [], ◌∷◌}
 use Rattle.std.specs.List.{range_with_len}
-use Rattle.ck_disk.specs.Disk.{Image, Meaning}
+use Rattle.ck_disk.specs.Disk.{Image}
 use Rattle.ck_log.specs.Layout.{Layout, table_blocks}
-use Rattle.ck_log.specs.Images.{table_on, BeforeOrAfter}
 
 -- the numbers of the group's blocks: none, or all of the table's in ascending order
 abbrev pub IsGroup : Layout → List ℕ → Type 0
@@ -13,7 +12,3 @@ IsGroup layout numbers = (numbers ≡ []) ⊎ (numbers ≡ range_with_len 0 (tab
 abbrev pub table_after : Image → Image → Image
 table_after before [] = before
 table_after before (first ∷ rest) = first ∷ rest
-
--- what a crash leaves at any moment of a commit after which the table is this one
-abbrev pub CommitLeaves : Layout → Image → Meaning → Image → Type 0
-CommitLeaves layout after old image = IsTrue old.tells → BeforeOrAfter layout (table_on layout old.shows) after old.may_leave image

@@ -10,7 +10,8 @@ magic = codes "CKPTVOL1"
 
 -- the header of a volume: the magic, the format, the number of data blocks, the number of records, and zeros
 unfoldable pub header_of : ℕ → ℕ → List ℕ
-header_of blocks records = magic ++ to_be_bytes w32 0 ++ to_be_bytes w32 blocks ++ to_be_bytes w32 records ++ replicate 4076 0
+header_of blocks records =
+    magic ++ to_be_bytes w32 0 ++ to_be_bytes w32 blocks ++ to_be_bytes w32 records ++ replicate 4076 0
 
 -- What opening finds: no volume, one of another format, or one of this layout.
 pub data Recovered : Type 0 where
@@ -25,7 +26,8 @@ number_at header at = from_be_bytes w32 (field header at 4)
 -- the volume of these sizes, if they are within the limits and the device is long enough
 abbrev pub sized_volume : ℕ → ℕ → Bool → ℕ → Recovered
 sized_volume blocks records second size =
-    if is_sized blocks records && nat_le (size_of blocks records) size then Opens (record { blocks = blocks; records = records; second = second }) else NotVolume
+    if is_sized blocks records && nat_le (size_of blocks records) size
+    then Opens (record { blocks = blocks; records = records; second = second }) else NotVolume
 
 -- what this header says of a device of so many blocks whose gate names that area; bytes from 20 on aren't looked at
 abbrev pub recovered_by : List ℕ → Bool → ℕ → Recovered

@@ -1,6 +1,6 @@
 -- What an image of a device says of the volume on it.
 use Rattle.std.specs.Prelude.{◌≡◌, ◌⊎◌, ◌-◌, ℕ, Bool, IsTrue, ◌==◌, [], length, get_or, slice_index, take, drop}
-use Rattle.ck_disk.specs.Disk.{Image, Meaning, Outside, Reaches}
+use Rattle.ck_disk.specs.Disk.{Image, Meaning, Agrees, Outside, Reaches}
 use Rattle.ck_log.specs.Layout.{Layout, table_blocks, area_at, base_of}
 use Rattle.ck_log.specs.Header.{Recovered, recovered_by}
 
@@ -34,8 +34,19 @@ pub record HasTable (layout : Layout) (blocks image : Image) : Type 0 where
 abbrev pub Settled : Layout → Meaning → Type 0
 Settled layout m = IsTrue m.tells → (image : Image) → m.may_leave image → HasTable layout (table_on layout m.shows) image
 
--- The image has the table from before or the new one. But for the gate and the two areas it is an image from before: it
--- has the same header, and each data block as that one has it.
-pub record BeforeOrAfter (layout : Layout) (before after : Image) (all : Image → Type 0) (image : Image) : Type 0 where
-  pub table : (table_on layout image ≡ before) ⊎ (table_on layout image ≡ after)
+-- The image has the table from before. But for the gate and the two areas it is an image from before: it has the same
+-- header, and each data block as that one has it.
+pub record HasBefore (layout : Layout) (before : Image) (all : Image → Type 0) (image : Image) : Type 0 where
+  pub table : table_on layout image ≡ before
   pub others : Reaches (Outside 1 (base_of layout.records - 1)) all image
+
+-- The image has the new table. But for the gate and the two areas it is what reads gave before, so each data block is
+-- there as it was written.
+pub record HasAfter (layout : Layout) (after shows image : Image) : Type 0 where
+  pub table : table_on layout image ≡ after
+  pub others : Agrees (Outside 1 (base_of layout.records - 1)) shows image
+
+-- what a crash leaves at any moment of a commit after which the table is this one
+abbrev pub CommitLeaves : Layout → Image → Meaning → Image → Type 0
+CommitLeaves layout after old image =
+    IsTrue old.tells → HasBefore layout (table_on layout old.shows) old.may_leave image ⊎ HasAfter layout after old.shows image

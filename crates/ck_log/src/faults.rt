@@ -14,9 +14,13 @@ pub enum OpenLog {
     NotVolume,
     /// A volume of another format, with its number.
     BadFormat(u32),
-    /// A number of an open intent log is wrong. No format that is built has such a log.
+    /// A number of an intent log is wrong: the device's block, and the place in it. This format
+    /// has no such log, so opening never answers it.
     Damaged { block: u32, slot: u32 },
+    /// A read of the header or the gate failed.
     ReadFault,
+    /// The sync before them failed.
     WriteFault,
+    /// Opening takes no memory in this format, so it never answers this.
     NoMemory,
 }

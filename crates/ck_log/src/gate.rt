@@ -26,9 +26,12 @@ pub fn gate_block(second: bool) -> Block
 /// Whether the gate of the device names the second area.
 pub fn read_gate<D: Disk>(disk: &mut D) -> Result<bool, Failed>
     requires { 1 < (D.means disk.old).size }
-    ensures second { IfOk result (λ second. IsTrue (D.means disk.old).tells → second ≡ names_second (D.means disk.old).shows) }
+    ensures second { IfOk result
+        (λ second. IsTrue (D.means disk.old).tells
+        → second ≡ names_second (D.means disk.old).shows) }
     ensures device { OnlyReads (D.means disk.old) (D.means disk.new) }
-    ensures cause { OnErr result (Rose (D.means disk.old).read_faults (D.means disk.new).read_faults) }
+    ensures cause { OnErr result
+        (Rose (D.means disk.old).read_faults (D.means disk.new).read_faults) }
 {
     let mut gate = [0; 4096];
     disk.read(GATE, &mut gate)?;

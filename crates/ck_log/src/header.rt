@@ -40,10 +40,14 @@ pub fn header_block(blocks: u32, records: u32) -> Block
 
 /// The sizes of the volume that a device of so many blocks has by this header.
 pub fn sizes_in(header: &Block, size: u32) -> Result<Sizes, OpenLog>
-    ensures opens { IfOk result (λ sizes. (second : Bool) → recovered_by header.now second size ≡ Opens (record { blocks = sizes.blocks; records = sizes.records; second = second })) }
+    ensures opens { IfOk result
+        (λ sizes. (second : Bool)
+        → recovered_by header.now second size
+        ≡ Opens (record { blocks = sizes.blocks; records = sizes.records; second = second })) }
     ensures sized { IfOk result (λ sizes. IsSized sizes.blocks sizes.records) }
     ensures fits { IfOk result (λ sizes. size_of sizes.blocks sizes.records ≤ size) }
-    ensures refused { IfErr result (λ fault. (second : Bool) → IsRefusal (recovered_by header.now second size) fault) }
+    ensures refused { IfErr result
+        (λ fault. (second : Bool) → IsRefusal (recovered_by header.now second size) fault) }
 {
     if header[..8] != MAGIC[..] {
         return Err(OpenLog::NotVolume);
@@ -62,9 +66,13 @@ pub fn sizes_in(header: &Block, size: u32) -> Result<Sizes, OpenLog>
 
 /// Reads the sizes of the volume on the device.
 pub fn read_sizes<D: Disk>(disk: &mut D) -> Result<Sizes, OpenLog>
-    ensures opens { IfOk result (λ sizes. IsTrue (D.means disk.old).tells → (second : Bool) → recovered_by (get_or (D.means disk.old).shows 0 []) second (D.means disk.old).size ≡ Opens (record { blocks = sizes.blocks; records = sizes.records; second = second })) }
+    ensures opens { IfOk result
+        (λ sizes. IsTrue (D.means disk.old).tells → (second : Bool)
+        → recovered_by (get_or (D.means disk.old).shows 0 []) second (D.means disk.old).size
+        ≡ Opens (record { blocks = sizes.blocks; records = sizes.records; second = second })) }
     ensures sized { IfOk result (λ sizes. IsSized sizes.blocks sizes.records) }
-    ensures fits { IfOk result (λ sizes. size_of sizes.blocks sizes.records ≤ (D.means disk.old).size) }
+    ensures fits { IfOk result
+        (λ sizes. size_of sizes.blocks sizes.records ≤ (D.means disk.old).size) }
     ensures device { OnlyReads (D.means disk.old) (D.means disk.new) }
     ensures refused { IfErr result (IsOpenFault (D.means disk.old) (D.means disk.new)) }
 {

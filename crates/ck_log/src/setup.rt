@@ -1,4 +1,4 @@
-// What makes a new volume on a device: its first table and a gate that names it, and then the header.
+// What makes a new volume: its first table and a gate that names it, and then the header.
 ghost use Rattle.std.specs.Prelude.{◌≡◌, ◌+◌, ◌-◌, ◌≤◌, ◌<◌, false, [], get_or, replicate, IsTrue, OnOk, OnErr};
 ghost use Rattle.ck_disk.specs.Disk.{LeavesOnly, Reaches, Outside, Agrees, IsSynced, Rose};
 ghost use Rattle.ck_log.specs.Layout.{IsSized, table_blocks, area_at, base_of, size_of};
@@ -30,10 +30,15 @@ fn first_block() -> Block
 /// Writes so many blocks of zeros from that place on.
 fn write_zeros<D: Disk>(disk: &mut D, at: u32, count: u32) -> Result<(), Failed>
     requires { at + count ≤ (D.means disk.old).size }
-    ensures any_moment { LeavesOnly (D.means disk.old) (D.means disk.new) (Reaches (Outside at count) (D.means disk.old).may_leave) }
-    ensures written { OnOk result (IsTrue (D.means disk.old).tells → part at count (D.means disk.new).shows ≡ replicate count blank_block) }
-    ensures others { IsTrue (D.means disk.old).tells → Agrees (Outside at count) (D.means disk.old).shows (D.means disk.new).shows }
-    ensures cause { OnErr result (Rose (D.means disk.old).write_faults (D.means disk.new).write_faults) }
+    ensures any_moment { LeavesOnly (D.means disk.old) (D.means disk.new)
+        (Reaches (Outside at count) (D.means disk.old).may_leave) }
+    ensures written { OnOk result
+        (IsTrue (D.means disk.old).tells
+        → part at count (D.means disk.new).shows ≡ replicate count blank_block) }
+    ensures others { IsTrue (D.means disk.old).tells
+        → Agrees (Outside at count) (D.means disk.old).shows (D.means disk.new).shows }
+    ensures cause { OnErr result
+        (Rose (D.means disk.old).write_faults (D.means disk.new).write_faults) }
 {
     for k in 0..count {
         disk.write(at + k, &[0; 4096])?;
@@ -45,10 +50,15 @@ fn write_zeros<D: Disk>(disk: &mut D, at: u32, count: u32) -> Result<(), Failed>
 fn write_first_table<D: Disk>(disk: &mut D, at: u32, count: u32) -> Result<(), Failed>
     requires some { 1 ≤ count }
     requires within { at + count ≤ (D.means disk.old).size }
-    ensures any_moment { LeavesOnly (D.means disk.old) (D.means disk.new) (Reaches (Outside at count) (D.means disk.old).may_leave) }
-    ensures written { OnOk result (IsTrue (D.means disk.old).tells → part at count (D.means disk.new).shows ≡ first_table count) }
-    ensures others { IsTrue (D.means disk.old).tells → Agrees (Outside at count) (D.means disk.old).shows (D.means disk.new).shows }
-    ensures cause { OnErr result (Rose (D.means disk.old).write_faults (D.means disk.new).write_faults) }
+    ensures any_moment { LeavesOnly (D.means disk.old) (D.means disk.new)
+        (Reaches (Outside at count) (D.means disk.old).may_leave) }
+    ensures written { OnOk result
+        (IsTrue (D.means disk.old).tells
+        → part at count (D.means disk.new).shows ≡ first_table count) }
+    ensures others { IsTrue (D.means disk.old).tells
+        → Agrees (Outside at count) (D.means disk.old).shows (D.means disk.new).shows }
+    ensures cause { OnErr result
+        (Rose (D.means disk.old).write_faults (D.means disk.new).write_faults) }
 {
     disk.write(at, &first_block())?;
     write_zeros(disk, at + 1, count - 1)?;
@@ -59,12 +69,20 @@ fn write_first_table<D: Disk>(disk: &mut D, at: u32, count: u32) -> Result<(), F
 fn put_first_table<D: Disk>(disk: &mut D, records: u32) -> Result<(), Failed>
     requires few { records ≤ 262144 }
     requires size { base_of records ≤ (D.means disk.old).size }
-    ensures any_moment { LeavesOnly (D.means disk.old) (D.means disk.new) (Reaches (Outside 1 (base_of records - 1)) (D.means disk.old).may_leave) }
-    ensures gate { OnOk result (IsTrue (D.means disk.old).tells → names_second (D.means disk.new).shows ≡ false) }
-    ensures table { OnOk result (IsTrue (D.means disk.old).tells → part (area_at records false) (table_blocks records) (D.means disk.new).shows ≡ first_table (table_blocks records)) }
-    ensures others { IsTrue (D.means disk.old).tells → Agrees (Outside 1 (base_of records - 1)) (D.means disk.old).shows (D.means disk.new).shows }
+    ensures any_moment { LeavesOnly (D.means disk.old) (D.means disk.new)
+        (Reaches (Outside 1 (base_of records - 1)) (D.means disk.old).may_leave) }
+    ensures gate { OnOk result
+        (IsTrue (D.means disk.old).tells → names_second (D.means disk.new).shows ≡ false) }
+    ensures table { OnOk result
+        (IsTrue (D.means disk.old).tells
+        → part (area_at records false) (table_blocks records) (D.means disk.new).shows
+        ≡ first_table (table_blocks records)) }
+    ensures others { IsTrue (D.means disk.old).tells
+        → Agrees (Outside 1 (base_of records - 1)) (D.means disk.old).shows
+        (D.means disk.new).shows }
     ensures synced { OnOk result (IsSynced (D.means disk.new)) }
-    ensures cause { OnErr result (Rose (D.means disk.old).write_faults (D.means disk.new).write_faults) }
+    ensures cause { OnErr result
+        (Rose (D.means disk.old).write_faults (D.means disk.new).write_faults) }
 {
     let first = area_at(records, false);
     let count = table_blocks(records);
@@ -78,13 +96,23 @@ fn put_first_table<D: Disk>(disk: &mut D, records: u32) -> Result<(), Failed>
 pub fn make_volume<D: Disk>(disk: &mut D, blocks: u32, records: u32) -> Result<(), Failed>
     requires sized { IsSized blocks records }
     requires size { size_of blocks records ≤ (D.means disk.old).size }
-    ensures any_moment { LeavesOnly (D.means disk.old) (D.means disk.new) (FormatLeaves (new_layout blocks records) (D.means disk.old)) }
-    ensures volume { OnOk result (IsTrue (D.means disk.old).tells → recovered_region (D.means disk.new).shows ≡ Opens (new_layout blocks records)) }
-    ensures header { OnOk result (IsTrue (D.means disk.old).tells → get_or (D.means disk.new).shows 0 [] ≡ header_of blocks records) }
-    ensures table { OnOk result (IsTrue (D.means disk.old).tells → HasTable (new_layout blocks records) (first_table (table_blocks records)) (D.means disk.new).shows) }
-    ensures others { IsTrue (D.means disk.old).tells → Agrees (Outside 0 (base_of records)) (D.means disk.old).shows (D.means disk.new).shows }
+    ensures any_moment { LeavesOnly (D.means disk.old) (D.means disk.new)
+        (FormatLeaves (new_layout blocks records) (D.means disk.old)) }
+    ensures volume { OnOk result
+        (IsTrue (D.means disk.old).tells
+        → recovered_region (D.means disk.new).shows ≡ Opens (new_layout blocks records)) }
+    ensures header { OnOk result
+        (IsTrue (D.means disk.old).tells
+        → get_or (D.means disk.new).shows 0 [] ≡ header_of blocks records) }
+    ensures table { OnOk result
+        (IsTrue (D.means disk.old).tells
+        → HasTable (new_layout blocks records) (first_table (table_blocks records))
+        (D.means disk.new).shows) }
+    ensures others { IsTrue (D.means disk.old).tells
+        → Agrees (Outside 0 (base_of records)) (D.means disk.old).shows (D.means disk.new).shows }
     ensures synced { OnOk result (IsSynced (D.means disk.new)) }
-    ensures cause { OnErr result (Rose (D.means disk.old).write_faults (D.means disk.new).write_faults) }
+    ensures cause { OnErr result
+        (Rose (D.means disk.old).write_faults (D.means disk.new).write_faults) }
 {
     put_first_table(disk, records)?;
     put_block(disk, HEADER, &header_block(blocks, records))?;

@@ -89,7 +89,8 @@ fn commits_replace_the_table_as_a_whole(rt: HostRuntime) -> Result<(), Fail> {
 fn a_stop_in_the_write_of_the_gate_leaves_one_table_or_the_other(
     rt: HostRuntime,
 ) -> Result<(), Fail> {
-    // Six calls make the volume. The group's two blocks and their sync are three more, and the gate is next.
+    // Six calls make the volume. The group's two blocks and their sync are three more, and the
+    // gate is next.
     for (byte, first) in [(0x47, 5), (0x46, 1), (0, 1)] {
         let mut disk = device(rt.alloc(), 8, 10)?;
         let mut region = Region::format(&mut disk, 1, 32)?;

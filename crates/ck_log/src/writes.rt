@@ -8,10 +8,16 @@ use ck_disk::{Block, Disk, Failed};
 /// Writes these blocks from that place on.
 fn write_run<D: Disk>(disk: &mut D, at: u32, blocks: &[Block]) -> Result<(), Failed>
     requires { at + length blocks.now ≤ (D.means disk.old).size }
-    ensures any_moment { LeavesOnly (D.means disk.old) (D.means disk.new) (Reaches (Outside at (length blocks.now)) (D.means disk.old).may_leave) }
-    ensures written { OnOk result (IsTrue (D.means disk.old).tells → part at (length blocks.now) (D.means disk.new).shows ≡ blocks.now) }
-    ensures others { IsTrue (D.means disk.old).tells → Agrees (Outside at (length blocks.now)) (D.means disk.old).shows (D.means disk.new).shows }
-    ensures cause { OnErr result (Rose (D.means disk.old).write_faults (D.means disk.new).write_faults) }
+    ensures any_moment { LeavesOnly (D.means disk.old) (D.means disk.new)
+        (Reaches (Outside at (length blocks.now)) (D.means disk.old).may_leave) }
+    ensures written { OnOk result
+        (IsTrue (D.means disk.old).tells
+        → part at (length blocks.now) (D.means disk.new).shows ≡ blocks.now) }
+    ensures others { IsTrue (D.means disk.old).tells
+        → Agrees (Outside at (length blocks.now)) (D.means disk.old).shows
+        (D.means disk.new).shows }
+    ensures cause { OnErr result
+        (Rose (D.means disk.old).write_faults (D.means disk.new).write_faults) }
 {
     let mut place = at;
     for block in blocks {
@@ -24,11 +30,17 @@ fn write_run<D: Disk>(disk: &mut D, at: u32, blocks: &[Block]) -> Result<(), Fai
 /// Writes these blocks from that place on, and syncs.
 pub fn put_run<D: Disk>(disk: &mut D, at: u32, blocks: &[Block]) -> Result<(), Failed>
     requires { at + length blocks.now ≤ (D.means disk.old).size }
-    ensures any_moment { LeavesOnly (D.means disk.old) (D.means disk.new) (Reaches (Outside at (length blocks.now)) (D.means disk.old).may_leave) }
-    ensures written { OnOk result (IsTrue (D.means disk.old).tells → part at (length blocks.now) (D.means disk.new).shows ≡ blocks.now) }
-    ensures others { IsTrue (D.means disk.old).tells → Agrees (Outside at (length blocks.now)) (D.means disk.old).shows (D.means disk.new).shows }
+    ensures any_moment { LeavesOnly (D.means disk.old) (D.means disk.new)
+        (Reaches (Outside at (length blocks.now)) (D.means disk.old).may_leave) }
+    ensures written { OnOk result
+        (IsTrue (D.means disk.old).tells
+        → part at (length blocks.now) (D.means disk.new).shows ≡ blocks.now) }
+    ensures others { IsTrue (D.means disk.old).tells
+        → Agrees (Outside at (length blocks.now)) (D.means disk.old).shows
+        (D.means disk.new).shows }
     ensures synced { OnOk result (IsSynced (D.means disk.new)) }
-    ensures cause { OnErr result (Rose (D.means disk.old).write_faults (D.means disk.new).write_faults) }
+    ensures cause { OnErr result
+        (Rose (D.means disk.old).write_faults (D.means disk.new).write_faults) }
 {
     write_run(disk, at, blocks)?;
     disk.sync()?;
@@ -38,11 +50,16 @@ pub fn put_run<D: Disk>(disk: &mut D, at: u32, blocks: &[Block]) -> Result<(), F
 /// Writes this block, and syncs.
 pub fn put_block<D: Disk>(disk: &mut D, at: u32, block: &Block) -> Result<(), Failed>
     requires { at + 1 ≤ (D.means disk.old).size }
-    ensures any_moment { LeavesOnly (D.means disk.old) (D.means disk.new) (Reaches (Outside at 1) (D.means disk.old).may_leave) }
-    ensures written { OnOk result (IsTrue (D.means disk.old).tells → (D.means disk.new).shows ≡ set (D.means disk.old).shows at block.now) }
-    ensures others { IsTrue (D.means disk.old).tells → Agrees (Outside at 1) (D.means disk.old).shows (D.means disk.new).shows }
+    ensures any_moment { LeavesOnly (D.means disk.old) (D.means disk.new)
+        (Reaches (Outside at 1) (D.means disk.old).may_leave) }
+    ensures written { OnOk result
+        (IsTrue (D.means disk.old).tells
+        → (D.means disk.new).shows ≡ set (D.means disk.old).shows at block.now) }
+    ensures others { IsTrue (D.means disk.old).tells
+        → Agrees (Outside at 1) (D.means disk.old).shows (D.means disk.new).shows }
     ensures synced { OnOk result (IsSynced (D.means disk.new)) }
-    ensures cause { OnErr result (Rose (D.means disk.old).write_faults (D.means disk.new).write_faults) }
+    ensures cause { OnErr result
+        (Rose (D.means disk.old).write_faults (D.means disk.new).write_faults) }
 {
     disk.write(at, block)?;
     disk.sync()?;

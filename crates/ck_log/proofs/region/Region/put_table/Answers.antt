@@ -19,7 +19,7 @@ returns-in_err-put_run-clause-others g c = λ told.
 pub returns-in_err-put_block-clause-any_moment : goal.returns-in_err-put_block-clause-any_moment
 returns-in_err-put_block-clause-any_moment g c =
     after_gate c.args.self.now _ c.args.table.now _ c.requires.settled _ _ _ c.free_area.ensures c.requires.whole c.put_run.ensures.any_moment _
-    (g.met.D.Disk.lawful c.put_run.new.disk) c.in_ok-put_run.ensures.written c.in_ok-put_run.ensures.synced c.put_block.ensures.any_moment
+    (g.met.D.Disk.lawful c.put_run.new.disk) c.in_ok-put_run.ensures.written c.put_run.ensures.others c.in_ok-put_run.ensures.synced c.put_block.ensures.any_moment
 
 pub returns-in_err-put_block-clause-others : goal.returns-in_err-put_block-clause-others
 returns-in_err-put_block-clause-others g c = λ told.
@@ -29,7 +29,7 @@ returns-in_err-put_block-clause-others g c = λ told.
 pub returns-clause-any_moment : goal.returns-clause-any_moment
 returns-clause-any_moment g c =
     after_gate c.args.self.now _ c.args.table.now _ c.requires.settled _ _ _ c.free_area.ensures c.requires.whole c.put_run.ensures.any_moment _
-    (g.met.D.Disk.lawful c.put_run.new.disk) c.in_ok-put_run.ensures.written c.in_ok-put_run.ensures.synced c.put_block.ensures.any_moment
+    (g.met.D.Disk.lawful c.put_run.new.disk) c.in_ok-put_run.ensures.written c.put_run.ensures.others c.in_ok-put_run.ensures.synced c.put_block.ensures.any_moment
 
 pub returns-clause-others : goal.returns-clause-others
 returns-clause-others g c = λ told.
