@@ -1,5 +1,5 @@
 -- A commit call by call.
-use Rattle.std.proofs.Common.{◌≡◌, ◌≢◌, ◌-◌, ◌⊎◌, inl, ⊎_elim, ◌==◌, ℕ, Bool, false, IsTrue, not, List, [], ◌∷◌, length, map, refl, sym, ◌∙◌, ap, subst}
+use Rattle.std.proofs.Common.{◌≡◌, ◌≢◌, ◌-◌, ◌⊎◌, inl, ⊎_elim, ◌==◌, ℕ, Bool, false, IsTrue, not, List, [], length, map, refl, sym, ◌∙◌, ap, subst}
 use Rattle.std.specs.List.{range_with_len}
 use Rattle.std.proofs.lemmas.Bool.{false≢true}
 use Rattle.std.proofs.lemmas.List.{length-map}
@@ -8,23 +8,18 @@ use Rattle.ck_disk.specs.Disk.{Image, Meaning, Lawful, LeavesOnly, Reaches, Outs
 use Rattle.ck_disk.proofs.Moments.{weakens, joins, now, synced_only, agrees_less, agrees_on}
 use Rattle.ck_log.specs.Layout.{Layout, table_blocks, area_at, base_of}
 use Rattle.ck_log.specs.Images.{part, table_on, HasTable, HasBefore, HasAfter, Settled}
-use Rattle.ck_log.specs.Group.{IsGroup, table_after}
+use Rattle.ck_log.specs.Group.{IsGroup}
 use Rattle.ck_log.proofs.Areas.{outside_area, others_gate}
 use Rattle.ck_log.proofs.Phases.{staged, opened}
 
 pub told_on : (old new : Bool) → new ≡ old → IsTrue old → IsTrue new
 told_on old new same told = subst (λ (b : Bool). IsTrue b) (sym same) told
 
--- a group that isn't empty is the table
-pub table_after-some : (before table : Image) → length table ≢ 0 → table_after before table ≡ table
-table_after-some before [] some = absurd (some refl)
-table_after-some before (first ∷ rest) some = refl
-
 -- what a test for none says
 pub some_blocks : (n : ℕ) → false ≡ (n == 0) → n ≢ 0
 some_blocks n test none = absurd (false≢true (test ∙ ap (λ (m : ℕ). m == 0) none))
 
--- and has as many blocks
+-- a group that isn't empty has as many blocks as the table
 pub group_blocks : (layout : Layout) (entries : List (ℕ × List ℕ)) → IsGroup layout (map (λ e. e.0) entries) → length (map (λ (e : ℕ × List ℕ). e.1) entries) ≢ 0
     → length (map (λ (e : ℕ × List ℕ). e.1) entries) ≡ table_blocks layout.records
 group_blocks layout entries group some =
@@ -74,10 +69,7 @@ module _ (layout : Layout) (before table : Image) (old : Meaning) (settled : IsT
         (in_area (written told))
         (subst (λ (d : Image). Agrees (Outside 1 1) d c) (synced_only run law told_run synced from.0 from.1) from.2)))
 
--- where each image has a table, reads give it
-pub table_shown : (layout : Layout) (blocks : Image) (m : Meaning) → Lawful m → IsTrue m.tells → ((c : Image) → m.may_leave c → HasTable layout blocks c) → table_on layout m.shows ≡ blocks
-table_shown layout blocks m law told all = (all m.shows (law.shown told)).table
-
+-- a synced disk whose one image has a table is settled
 pub settles : (layout : Layout) (m : Meaning) → Lawful m → IsSynced m → (IsTrue m.tells → (blocks : Image) × HasTable layout blocks m.shows) → Settled layout m
 settles layout m law synced has told c left =
     let there = (has told).1 in

@@ -136,6 +136,9 @@ has_table-agrees layout blocks K d c kept same has = record {
 pub area_of-has : (layout : Layout) (blocks c : Image) → HasTable layout blocks c → area_of layout c ≡ blocks
 area_of-has layout blocks c has = sym (table_at layout c layout.second has.gate) ∙ has.table
 
+pub area_of-settled : (layout : Layout) (m : Meaning) → Lawful m → IsTrue m.tells → Settled layout m → area_of layout m.shows ≡ table_on layout m.shows
+area_of-settled layout m law told settled = area_of-has layout (table_on layout m.shows) m.shows (settled told m.shows (law.shown told))
+
 -- ---- a commit
 
 -- each image of a commit has the volume from before, with the area that its own gate names
