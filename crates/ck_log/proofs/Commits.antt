@@ -1,0 +1,76 @@
+-- A commit call by call.
+use Rattle.std.proofs.Common.{◌≡◌, ◌≢◌, ◌-◌, ◌⊎◌, inl, ⊎_elim, ◌==◌, ℕ, Bool, false, IsTrue, not, List, [], length, map, refl, sym, ◌∙◌, ap, subst}
+use Rattle.std.specs.List.{range_with_len}
+use Rattle.std.proofs.lemmas.Bool.{false≢true}
+use Rattle.std.proofs.lemmas.List.{length-map}
+use Rattle.std.proofs.lemmas.List.FromFn.{length-range_with_len}
+use Rattle.ck_disk.specs.Disk.{Image, Meaning, Lawful, LeavesOnly, Reaches, Outside, Agrees, IsSynced}
+use Rattle.ck_disk.proofs.Moments.{weakens, joins, now, synced_only, agrees_less, agrees_on}
+use Rattle.ck_log.specs.Layout.{Layout, table_blocks, area_at, base_of}
+use Rattle.ck_log.specs.Images.{part, table_on, HasTable, HasBefore, HasAfter, Settled}
+use Rattle.ck_log.specs.Group.{IsGroup}
+use Rattle.ck_log.proofs.Areas.{outside_area, others_gate}
+use Rattle.ck_log.proofs.Phases.{staged, opened}
+
+pub told_on : (old new : Bool) → new ≡ old → IsTrue old → IsTrue new
+told_on old new same told = subst (λ (b : Bool). IsTrue b) (sym same) told
+
+-- what a test for none says
+pub some_blocks : (n : ℕ) → false ≡ (n == 0) → n ≢ 0
+some_blocks n test none = absurd (false≢true (test ∙ ap (λ (m : ℕ). m == 0) none))
+
+-- a group that isn't empty has as many blocks as the table
+pub group_blocks : (layout : Layout) (entries : List (ℕ × List ℕ)) → IsGroup layout (map (λ e. e.0) entries) → length (map (λ (e : ℕ × List ℕ). e.1) entries) ≢ 0
+    → length (map (λ (e : ℕ × List ℕ). e.1) entries) ≡ table_blocks layout.records
+group_blocks layout entries group some =
+    let same : length (map (λ (e : ℕ × List ℕ). e.1) entries) ≡ length (map (λ (e : ℕ × List ℕ). e.0) entries) =
+    length-map entries (λ (e : ℕ × List ℕ). e.1) ∙ sym (length-map entries (λ (e : ℕ × List ℕ). e.0)) in
+    ⊎_elim
+    (λ (none : map (λ (e : ℕ × List ℕ). e.0) entries ≡ []). absurd (some (same ∙ ap length none)))
+    (λ (all : map (λ (e : ℕ × List ℕ). e.0) entries ≡ range_with_len 0 (table_blocks layout.records)). same ∙ ap length all ∙ length-range_with_len 0 (table_blocks layout.records))
+    group
+
+-- what reads give outside the gate and both areas
+pub others_after_run : (layout : Layout) (second : Bool) (free n : ℕ) (d c : Image) → free ≡ area_at layout.records second → n ≡ table_blocks layout.records → Agrees (Outside free n) d c → Agrees (Outside 1 (base_of layout.records - 1)) d c
+others_after_run layout second free n d c is_free long same =
+    agrees_less (Outside free n) (Outside 1 (base_of layout.records - 1)) d c
+    (outside_area layout.records second free n is_free long) same
+
+pub others_after_gate : (layout : Layout) (d s c : Image) → Agrees (Outside 1 (base_of layout.records - 1)) d s → Agrees (Outside 1 1) s c → Agrees (Outside 1 (base_of layout.records - 1)) d c
+others_after_gate layout d s c before same =
+    agrees_on (Outside 1 (base_of layout.records - 1)) d s c before (agrees_less (Outside 1 1) (Outside 1 (base_of layout.records - 1)) s c (others_gate layout.records) same)
+
+module _ (layout : Layout) (before table : Image) (old : Meaning) (settled : IsTrue old.tells → (c : Image) → old.may_leave c → HasTable layout before c) where
+  abbrev pub Either : Image → Type 0
+  Either c = IsTrue old.tells → HasBefore layout before old.may_leave c ⊎ HasAfter layout table old.shows c
+
+  module _ (run : Meaning) (free n : ℕ) (is_free : free ≡ area_at layout.records (not layout.second)) (long : n ≡ table_blocks layout.records)
+      (ran : LeavesOnly old run (Reaches (Outside free n) old.may_leave)) where
+    unnamed : (c : Image) → Reaches (Outside free n) old.may_leave c → Reaches (Outside (area_at layout.records (not layout.second)) (table_blocks layout.records)) old.may_leave c
+    unnamed c from =
+        subst (λ (m : ℕ). Reaches (Outside (area_at layout.records (not layout.second)) m) old.may_leave c) long (subst (λ (p : ℕ). Reaches (Outside p n) old.may_leave c) is_free from)
+
+    -- the other area is written
+    pub after_run : LeavesOnly old run Either
+    after_run = weakens old run (Reaches (Outside free n) old.may_leave) Either ran (λ c from told. inl (staged layout before table old.may_leave (settled told) c (unnamed c from)))
+
+    -- the table stands there
+    pub in_area : part free n run.shows ≡ table → part (area_at layout.records (not layout.second)) (table_blocks layout.records) run.shows ≡ table
+    in_area written = subst (λ (m : ℕ). part (area_at layout.records (not layout.second)) m run.shows ≡ table) long (subst (λ (p : ℕ). part p n run.shows ≡ table) is_free written)
+
+    -- the gate is written, to a disk whose one image has the table in that area
+    pub after_gate : (gated : Meaning) → Lawful run → (IsTrue old.tells → part free n run.shows ≡ table) → (IsTrue old.tells → Agrees (Outside free n) old.shows run.shows) → IsSynced run
+        → LeavesOnly run gated (Reaches (Outside 1 1) run.may_leave) → LeavesOnly old gated Either
+    after_gate gated law written stands synced more = joins old run gated Either after_run (weakens run gated (Reaches (Outside 1 1) run.may_leave) Either more (λ c from told.
+        let told_run = told_on _ _ ran.tells told in
+        opened layout before table old.may_leave (settled told) old.shows run.shows c
+        (unnamed run.shows (now old run (Reaches (Outside free n) old.may_leave) law ran run.shows (law.shown told_run)))
+        (others_after_run layout (not layout.second) free n old.shows run.shows is_free long (stands told))
+        (in_area (written told))
+        (subst (λ (d : Image). Agrees (Outside 1 1) d c) (synced_only run law told_run synced from.0 from.1) from.2)))
+
+-- a synced disk whose one image has a table is settled
+pub settles : (layout : Layout) (m : Meaning) → Lawful m → IsSynced m → (IsTrue m.tells → (blocks : Image) × HasTable layout blocks m.shows) → Settled layout m
+settles layout m law synced has told c left =
+    let there = (has told).1 in
+    subst (λ (d : Image). HasTable layout (table_on layout m.shows) d) (sym (synced_only m law told synced c left)) (record { gate = there.gate; table = refl })
