@@ -1,15 +1,17 @@
 -- A table without a checkpoint that has no entry: what its other checkpoints read.
 use Rattle.std.proofs.Common.{◌≡◌, ℕ, Bool, true, false, cond, not, ◌&&◌, ◌||◌, List, [], ◌∷◌, ◌++◌, filter, Option, Some, None, nat_lt, nat_le, nat_eq, refl, sym, ap, subst, ◌∙◌, arith}
 use Rattle.std.specs.List.{list_any}
-use Rattle.std.specs.Option.{option_or, option_map}
+use Rattle.std.specs.Option.{option_or, option_map, option_map_or}
 use Rattle.std.proofs.lemmas.Bool.{eqb-true}
 use Rattle.std.specs.FinMap as map
 use Rattle.ck_model.specs.declared.key.Key.{Key}
 use Rattle.ck_model.specs.declared.held.Held.{Held}
+use Rattle.ck_model.specs.declared.checkpoint.Fileset.{Fileset}
+use Rattle.ck_model.specs.World.{keeps_files}
 use Rattle.ck_model.specs.Table.{Table, Filesets, column, newer, with_fileset}
-use Rattle.ck_model.specs.Chain.{first_entry, present, value_of}
+use Rattle.ck_model.specs.Chain.{first_entry, present, value_of, is_live_data, keeps_data, as_mark, seen}
 use Rattle.ck_model.specs.Rules.{first_holder}
-use Rattle.ck_table.proofs.Ids.{is_other, keys-remove}
+use Rattle.ck_table.proofs.Ids.{is_other, keys-remove, get-recorded}
 
 -- ---- lists without one id
 
@@ -112,3 +114,21 @@ holder-without t u id without fs key =
     ap (λ (c : ℕ → Option Held). first_holder c (newer u fs)) (column-without t u id without key)
     ∙ ap (first_holder (column t key)) (newer-without t u id without fs)
     ∙ first_holder-other (column t key) id (without.empty key) (newer t fs)
+
+pub get-without : (t u : Table) (id : ℕ) → IsWithout t u id → (x : ℕ) → nat_eq x id ≡ false → map.get u.filesets x ≡ map.get t.filesets x
+get-without t u id without x apart =
+    ap (λ (m : Filesets). map.get m x) without.filesets ∙ get-recorded t.filesets id None x ∙ ap (λ b. cond b None (map.get t.filesets x)) apart
+
+-- whether data is kept, where it isn't by the checkpoint that is missing
+pub keeps-without : (t u : Table) (id : ℕ) → IsWithout t u id → (fs : ℕ) → (nat_le id fs && is_live_data t id) ≡ false → keeps_data u fs ≡ keeps_data t fs
+keeps-without t u id without fs fails =
+    let in_t : ℕ → Bool = λ x. nat_le x fs && is_live_data t x in
+    let in_u : ℕ → Bool = λ x. nat_le x fs && is_live_data u x in
+    let same : (x : ℕ) → nat_eq x id ≡ false → in_u x ≡ in_t x = λ x apart.
+      ap (λ o. nat_le x fs && option_map_or (λ (fileset : Fileset). not fileset.gone && keeps_files fileset.kind) o false) (get-without t u id without x apart) in
+    ap (list_any in_u) (newer-without t u id without 0) ∙ any-others in_u in_t id same (newer t 0) ∙ any-dropped in_t id fails (newer t 0)
+
+pub seen-without : (t u : Table) (id : ℕ) → IsWithout t u id → (fs : ℕ) (key : Key) → (nat_le id fs && is_live_data t id) ≡ false → seen u fs key ≡ seen t fs key
+seen-without t u id without fs key fails =
+    ap (λ b. cond b (value_of u fs key) (option_map as_mark (value_of u fs key))) (keeps-without t u id without fs fails)
+    ∙ ap (λ o. cond (keeps_data t fs) o (option_map as_mark o)) (value-without t u id without fs key)

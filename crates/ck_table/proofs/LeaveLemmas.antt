@@ -1,0 +1,1 @@
+-- A table in which a checkpoint leaves.
