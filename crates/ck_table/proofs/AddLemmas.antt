@@ -1,5 +1,5 @@
 -- A table with a new checkpoint.
-use Rattle.std.proofs.Common.{◌≡◌, ℕ, ◌+◌, ◌<◌, ◌≤◌, Bool, true, false, cond, not, ◌&&◌, ◌||◌, List, [], ◌∷◌, ◌++◌, length, filter, Option, Some, None, IsSome, is_some, nat_lt, nat_le, nat_eq, refl, sym, ap, subst, ◌∙◌, ◌⊎◌, inl, inr, arith}
+use Rattle.std.proofs.Common.{◌≡◌, ℕ, ◌+◌, ◌<◌, ◌≤◌, Bool, true, false, cond, not, ◌&&◌, ◌||◌, List, [], ◌∷◌, ◌++◌, length, filter, Option, Some, None, IsSome, IsSomeAnd, ◌≢◌, is_some, nat_lt, nat_le, nat_eq, refl, sym, ap, subst, ◌∙◌, ◌⊎◌, inl, inr, arith}
 use Rattle.std.specs.List.{list_any}
 use Rattle.std.specs.Option.{option_or, option_map, option_map_or}
 use Rattle.std.specs.Ordering.{nat_cmp}
@@ -20,10 +20,10 @@ use Rattle.ck_model.specs.Chain.{first_entry, present, value_of, is_live, is_gon
 use Rattle.ck_model.specs.Rules.{IsOrderly, IsSound, IsNeeded, first_holder}
 use Rattle.ck_table.specs.Names.{is_named, id_named}
 use Rattle.ck_table.specs.Adding.{with_added}
-use Rattle.ck_table.proofs.Ids.{is_other, get-recorded, keys-insert_last, newer-has}
+use Rattle.ck_table.proofs.Ids.{is_other, get-recorded, get-recorded_same, still_there, keys-insert_last, newer-has}
 use Rattle.ck_table.proofs.NameLemmas.{unnamed}
 use Rattle.ck_table.proofs.Without.{IsWithout, newer-without, value-without, holder-without, keeps-without, seen-without, get-without, filter-others}
-use Rattle.ck_table.proofs.Sound.{Keeps, sound_with}
+use Rattle.ck_table.proofs.Sound.{Keeps, Counts, sound_with, still_needed}
 
 -- the next id isn't in use
 unused : (t : Table) → IsOrderly t → map.get t.filesets t.counters.id ≡ None
@@ -60,7 +60,7 @@ before t fileset lawful orderly =
     }
 
 get_new : (t : Table) (fileset : Fileset) → map.get (with_added t fileset).filesets t.counters.id ≡ Some fileset
-get_new t fileset = get-recorded t.filesets t.counters.id (Some fileset) t.counters.id ∙ ap (λ b. cond b (Some fileset) (map.get t.filesets t.counters.id)) (eq-eqb t.counters.id t.counters.id refl)
+get_new t fileset = get-recorded_same t.filesets t.counters.id (Some fileset)
 
 newer_added : (t : Table) (fileset : Fileset) → IsOrderly t → (fs : ℕ) → newer (with_added t fileset) fs ≡ newer t fs ++ filter (λ x. nat_lt fs x) (t.counters.id ∷ [])
 newer_added t fileset orderly fs =
@@ -151,10 +151,6 @@ ids_below t fileset orderly x stands =
       | false ↦ λ _ old. let less = orderly.ids x old in omega (arith, less)
     ] refl (ap is_some (sym (get-recorded t.filesets id (Some fileset) x)) ∙ stands)
 
-still_there : (t : Table) (id : ℕ) (fileset : Fileset) (x : ℕ) → IsSome (map.get t.filesets x) → IsSome (map.get (map.insert t.filesets id fileset) x)
-still_there t id fileset x stands =
-    ap is_some (get-recorded t.filesets id (Some fileset) x) ∙ elim (nat_eq x id) as (λ b. is_some (cond b (Some fileset) (map.get t.filesets x)) ≡ true) [ true ↦ refl | false ↦ stands ]
-
 is_gone-added : (t : Table) (fileset : Fileset) → IsTable t → IsOrderly t → fileset.gone ≡ false → (x : ℕ) → is_gone (with_added t fileset) x ≡ is_gone t x
 is_gone-added t fileset lawful orderly stays x =
     let id = t.counters.id in
@@ -169,7 +165,17 @@ is_gone-added t fileset lawful orderly stays x =
 
 -- an absent that was needed is needed; the new checkpoint has none
 needed-added : (t : Table) (fileset : Fileset) → IsTable t → IsSound t → fileset.gone ≡ false → (fs : ℕ) (key : Key) → is_live (with_added t fileset) fs ≡ true → column t key fs ≡ Some Absent → IsNeeded (with_added t fileset) key fs
-needed-added t fileset lawful sound stays fs key live absent = ?
+needed-added t fileset lawful sound stays fs key live absent =
+    let id = t.counters.id in
+    let u = with_added t fileset in
+    let orderly = sound.orderly in
+    let apart : nat_eq fs id ≡ false = elim (nat_eq fs id) as (λ b. nat_eq fs id ≡ b → b ≡ false) [
+      | true ↦ λ same. absurd (false≢true (sym (ap is_some (ap (column t key) (eqb-true fs id same) ∙ no_entry t lawful orderly key)) ∙ ap is_some absent))
+      | false ↦ λ _. refl
+    ] refl in
+    let was = sound.absents fs key (sym (is_live-others t fileset lawful orderly fs apart) ∙ live) absent in
+    let now = still_needed (column t key) (is_gone t) (is_gone u) (λ x _ gone. is_gone-added t fileset lawful orderly stays x ∙ gone) (newer t fs) was in
+    subst (λ o. IsSomeAnd o (Counts (is_gone u))) (holder-without u t id (before t fileset lawful orderly) fs key) now
 
 pub sound-added : (t : Table) (fileset : Fileset) → IsTable t → IsSound t → fileset.gone ≡ false → id_named t fileset.name ≡ None → length (live_ids t) < 64 → IsSound (with_added t fileset)
 sound-added t fileset lawful sound stays free few =
@@ -180,7 +186,7 @@ sound-added t fileset lawful sound stays free few =
       live =
         let long = ap length (live_ids-added t fileset lawful orderly stays) ∙ length-append (live_ids t) (t.counters.id ∷ []) in
         omega (arith, long);
-      homes = λ fs key _ stands. still_there t t.counters.id fileset fs stands;
+      homes = λ fs key _ stands. still_there t.filesets t.counters.id fileset fs stands;
       marks = λ fs stands none. sym (keeps-without (with_added t fileset) t t.counters.id (before t fileset lawful orderly) fs (later t fileset fs (orderly.ids fs stands))) ∙ none;
       absents = needed-added t fileset lawful sound stays;
     })

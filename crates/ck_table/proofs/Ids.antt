@@ -6,7 +6,7 @@ use Rattle.std.specs.Ordering.{nat_cmp, is_eq, eq_by_cmp}
 use Rattle.std.specs.List.{list_any}
 use Rattle.std.specs.Cmp.{unsigned_tied, nat_cmp_is}
 use Rattle.std.proofs.lemmas.Cmp.{nat_cmp_total, tied_itself}
-use Rattle.std.proofs.lemmas.Bool.{false≢true, eqb-true}
+use Rattle.std.proofs.lemmas.Bool.{false≢true, eqb-true, eq-eqb}
 use Rattle.std.proofs.lemmas.Bool.Decides.{nat_tests}
 use Rattle.std.proofs.lemmas.List.{map-append}
 use Rattle.std.proofs.lemmas.List.Elements.{filter-append}
@@ -21,6 +21,17 @@ use Rattle.ck_model.specs.Table.{Table, Filesets, recorded, newer}
 pub get-recorded : (m : Filesets) (id : ℕ) (w : Option Fileset) (q : ℕ) → map.get (recorded m id w) q ≡ cond (nat_eq q id) w (map.get m q)
 get-recorded m id None q = map.get-remove nat_cmp_total m id q ∙ ap (λ b. cond b None (map.get m q)) (unsigned_tied q id)
 get-recorded m id (Some fileset) q = map.get-insert nat_cmp_total m id fileset q ∙ ap (λ b. cond b (Some fileset) (map.get m q)) (unsigned_tied q id)
+
+pub get-recorded_other : (m : Filesets) (id : ℕ) (w : Option Fileset) (q : ℕ) → nat_eq q id ≡ false → map.get (recorded m id w) q ≡ map.get m q
+get-recorded_other m id w q apart = get-recorded m id w q ∙ ap (λ b. cond b w (map.get m q)) apart
+
+pub get-recorded_same : (m : Filesets) (id : ℕ) (w : Option Fileset) → map.get (recorded m id w) id ≡ w
+get-recorded_same m id w = get-recorded m id w id ∙ ap (λ b. cond b w (map.get m id)) (eq-eqb id id refl)
+
+-- a record that is put takes none away
+pub still_there : (m : Filesets) (id : ℕ) (fileset : Fileset) (x : ℕ) → IsSome (map.get m x) → IsSome (map.get (map.insert m id fileset) x)
+still_there m id fileset x stands =
+    ap is_some (get-recorded m id (Some fileset) x) ∙ elim (nat_eq x id) as (λ b. is_some (cond b (Some fileset) (map.get m x)) ≡ true) [ true ↦ refl | false ↦ stands ]
 
 abbrev pub ids_of : {X : Type 0} → List (ℕ × X) → List ℕ
 ids_of es = map (λ e. e.0) es

@@ -1,5 +1,5 @@
 -- The rules of a table after its checkpoints' records change and no entry does.
-use Rattle.std.proofs.Common.{◌≡◌, ℕ, ◌<◌, ◌≤◌, Bool, true, false, Option, Some, None, IsSome, is_some, length, refl, sym, ap, subst, ◌∙◌, ◌⊎◌, inl, inr}
+use Rattle.std.proofs.Common.{◌≡◌, ℕ, ◌<◌, ◌≤◌, Bool, true, false, List, [], ◌∷◌, Option, Some, None, IsSome, IsSomeAnd, is_some, length, ◌≢◌, refl, sym, ap, subst, ◌∙◌, ◌⊎◌, inl, inr}
 use Rattle.std.specs.FinMap as map
 use Rattle.ck_model.specs.declared.key.Key.{Key}
 use Rattle.ck_model.specs.declared.held.Held.{Held}
@@ -7,7 +7,8 @@ use Rattle.ck_model.specs.declared.held.Held.TheVariants.{Absent, Mark}
 use Rattle.ck_model.specs.declared.checkpoint.Fileset.{Fileset}
 use Rattle.ck_model.specs.Table.{Table, Filesets, column}
 use Rattle.ck_model.specs.Chain.{is_live, live_ids, keeps_data}
-use Rattle.ck_model.specs.Rules.{IsOrderly, IsSound, IsNeeded, IsOwn}
+use Rattle.ck_model.specs.Rules.{IsOrderly, IsSound, IsNeeded, IsOwn, first_holder}
+use Rattle.std.specs.Option.{option_or, option_map}
 
 -- the table with these records and this next id
 abbrev pub with_records : Table → Filesets → ℕ → Table
@@ -48,3 +49,29 @@ sound_with t filesets next sound keeps = record {
   };
   absents = keeps.absents;
 }
+
+-- the entry with its checkpoint
+abbrev pub held_by : ℕ → Held → ℕ × Held
+held_by x entry = (x, entry)
+
+-- it stands in one that is gone, or isn't an absent
+abbrev pub Counts : (ℕ → Bool) → ℕ × Held → Type 0
+Counts gone holder = (gone holder.0 ≡ true) ⊎ (holder.1 ≢ Absent)
+
+still_counts : (gone now : ℕ → Bool) (x : ℕ) (entry : Held) → (gone x ≡ true → now x ≡ true) → Counts gone (held_by x entry) → Counts now (held_by x entry)
+still_counts gone now x entry more (inl left) = inl (more left)
+still_counts gone now x entry more (inr other) = inr other
+
+-- an absent that is needed stays so, where those that are gone stay gone
+pub still_needed : (held : ℕ → Option Held) (gone now : ℕ → Bool) → ((x : ℕ) → IsSome (held x) → gone x ≡ true → now x ≡ true) → (xs : List ℕ)
+    → IsSomeAnd (first_holder held xs) (Counts gone) → IsSomeAnd (first_holder held xs) (Counts now)
+still_needed held gone now more [] needed =
+    elim (held 0) as (λ o. held 0 ≡ o → IsSomeAnd (option_map (held_by 0) o) (Counts gone) → IsSomeAnd (option_map (held_by 0) o) (Counts now)) [
+      | None ↦ λ _ h. h
+      | Some entry ↦ λ is h. still_counts gone now 0 entry (more 0 (ap is_some is)) h
+    ] refl needed
+still_needed held gone now more (x ∷ xs) needed =
+    elim (held x) as (λ o. held x ≡ o → IsSomeAnd (option_or (option_map (held_by x) o) (first_holder held xs)) (Counts gone) → IsSomeAnd (option_or (option_map (held_by x) o) (first_holder held xs)) (Counts now)) [
+      | None ↦ λ _ h. still_needed held gone now more xs h
+      | Some entry ↦ λ is h. still_counts gone now x entry (more x (ap is_some is)) h
+    ] refl needed
