@@ -1,11 +1,11 @@
 -- A table with a new checkpoint.
-use Rattle.std.proofs.Common.{◌≡◌, ℕ, ◌+◌, ◌<◌, ◌≤◌, Bool, true, false, cond, not, ◌&&◌, ◌||◌, List, [], ◌∷◌, ◌++◌, length, filter, Option, Some, None, IsSome, IsSomeAnd, ◌≢◌, is_some, nat_lt, nat_le, nat_eq, refl, sym, ap, subst, ◌∙◌, ◌⊎◌, inl, inr, arith}
+use Rattle.std.proofs.Common.{◌≡◌, ℕ, ◌+◌, ◌<◌, ◌≤◌, Bool, true, false, cond, not, ◌&&◌, ◌||◌, List, [], ◌∷◌, ◌++◌, length, filter, Option, Some, None, Result, Ok, Err, if◌then◌else◌, IsSome, IsSomeAnd, ◌≢◌, is_some, nat_lt, nat_le, nat_eq, refl, sym, ap, subst, ◌∙◌, ◌⊎◌, inl, inr, arith}
 use Rattle.std.specs.List.{list_any}
 use Rattle.std.specs.Option.{option_or, option_map, option_map_or}
 use Rattle.std.specs.Ordering.{nat_cmp}
 use Rattle.std.specs.Cmp.Lexicographic.{pointwise, bytes_decides}
 use Rattle.std.proofs.lemmas.Cmp.{nat_cmp_total}
-use Rattle.std.proofs.lemmas.Bool.{false≢true, eqb-true, eq-eqb, lt-ltb, le-ltb, lt-leb, and_left, and_right, and_from}
+use Rattle.std.proofs.lemmas.Bool.{false≢true, eqb-true, eq-eqb, lt-ltb, le-ltb, lt-leb, leb-false, and_left, and_right, and_from}
 use Rattle.std.proofs.lemmas.List.{length-append}
 use Rattle.std.proofs.lemmas.List.Elements.{filter-append}
 use Rattle.std.proofs.lemmas.Option.{same_Some}
@@ -19,7 +19,9 @@ use Rattle.ck_model.specs.Table.{Table, IsTable, Filesets, column, newer, record
 use Rattle.ck_model.specs.Chain.{first_entry, present, value_of, is_live, is_gone, live_ids, is_live_data, keeps_data, seen}
 use Rattle.ck_model.specs.Rules.{IsOrderly, IsSound, IsNeeded, first_holder}
 use Rattle.ck_table.specs.Names.{is_named, id_named}
-use Rattle.ck_table.specs.Adding.{with_added}
+use Rattle.ck_table.specs.Adding.{new_id, with_added}
+use Rattle.ck_table.specs.declared.adding.AddFault.{AddFault}
+use Rattle.ck_table.specs.declared.adding.AddFault.TheVariants.{Exists, TooMany, Spent}
 use Rattle.ck_table.proofs.Ids.{is_other, get-recorded, get-recorded_same, still_there, keys-insert_last, newer-has}
 use Rattle.ck_table.proofs.NameLemmas.{unnamed}
 use Rattle.ck_table.proofs.Without.{IsWithout, newer-without, value-without, holder-without, keeps-without, seen-without, get-without, filter-others}
@@ -190,3 +192,20 @@ sound-added t fileset lawful sound stays free few =
       marks = λ fs stands none. sym (keeps-without (with_added t fileset) t t.counters.id (before t fileset lawful orderly) fs (later t fileset fs (orderly.ids fs stands))) ∙ none;
       absents = needed-added t fileset lawful sound stays;
     })
+
+-- what holds where nothing is refused
+pub record Allows (t : Table) (name : List ℕ) (id : ℕ) : Type 0 where
+  pub free : id_named t name ≡ None
+  pub few : length (live_ids t) < 64
+  pub next : t.counters.id ≡ id
+
+none_refused : (found : Option ℕ) (many spent : Bool) (next id : ℕ) → (if is_some found then Err Exists else (if many then Err TooMany else (if spent then Err Spent else Ok next))) ≡ Ok id → (found ≡ None) × (many ≡ false) × (next ≡ id)
+none_refused (Some x) many spent next id h = cc
+none_refused None true spent next id h = cc
+none_refused None false true next id h = cc
+none_refused None false false next id h = (refl, refl, cc)
+
+pub allows : (t : Table) (name : List ℕ) (id : ℕ) → new_id t name ≡ Ok id → Allows t name id
+allows t name id h =
+    let facts = none_refused (id_named t name) (nat_le 64 (length (live_ids t))) (nat_eq t.counters.id 4294967295) t.counters.id id h in
+    record { free = facts.0; few = leb-false 64 (length (live_ids t)) facts.1; next = facts.2 }

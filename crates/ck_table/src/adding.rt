@@ -1,10 +1,10 @@
-ghost use Rattle.std.specs.Prelude.{◌≡◌, ◌<◌, ◌+◌, ℕ, true, IfOk, OnOk, OnErr};
+ghost use Rattle.std.specs.Prelude.{◌≡◌, ◌<◌, ◌+◌, ◌++◌, [], ◌∷◌, ℕ, true, IfOk, OnOk, OnErr};
 ghost use Rattle.ck_model.specs.declared.checkpoint.Fileset.{Fileset};
 ghost use Rattle.ck_model.specs.declared.key.Key.{Key};
 ghost use Rattle.ck_model.specs.Held.{IsFileset};
 ghost use Rattle.ck_model.specs.Name.{IsCheckpointName};
 ghost use Rattle.ck_model.specs.Table.{spare_count, record_count, column};
-ghost use Rattle.ck_model.specs.Chain.{is_live, seen, value_of, present};
+ghost use Rattle.ck_model.specs.Chain.{is_live, live_ids, seen, value_of, present};
 ghost use Rattle.ck_model.specs.Rules.{IsSound};
 ghost use Rattle.ck_table.specs.Adding.{new_id, new_fileset, with_added};
 
@@ -74,6 +74,15 @@ pub fn add<M: Meta>(
     ensures result { result ≡ new_id (M.table meta.old) name.now }
     ensures ok { OnOk result (M.table meta.new ≡ with_added (M.table meta.old) (new_fileset name.now kind removable at)) }
     ensures err { OnErr result (M.table meta.new ≡ M.table meta.old) }
+    ensures sound { IsSound (M.table meta.new) }
+
+    // It is the newest, and stands.
+    ensures lives { IfOk result (λ id. live_ids (M.table meta.new) ≡ live_ids (M.table meta.old) ++ id ∷ []) }
+    // Its contents are the primary's.
+    ensures contents { IfOk result (λ id. (key : Key) → value_of (M.table meta.new) id key ≡ present (column (M.table meta.old) key 0)) }
+    // The others' readers see what they saw.
+    ensures kept { (fs : ℕ) (key : Key) → is_live (M.table meta.old) fs ≡ true → seen (M.table meta.new) fs key ≡ seen (M.table meta.old) fs key }
+    ensures count { OnOk result (record_count (M.table meta.new) ≡ record_count (M.table meta.old) + 1) }
 {
     let id = new_id(meta, name)?;
     enter(meta, Fileset {
