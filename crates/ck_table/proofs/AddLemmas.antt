@@ -1,8 +1,7 @@
 -- A table with a new checkpoint.
-use Rattle.std.proofs.Common.{◌≡◌, ℕ, ◌+◌, ◌<◌, ◌≤◌, Bool, true, false, cond, not, ◌&&◌, ◌||◌, List, [], ◌∷◌, ◌++◌, length, filter, Option, Some, None, Result, Ok, Err, if◌then◌else◌, IsSome, IsSomeAnd, ◌≢◌, is_some, nat_lt, nat_le, nat_eq, refl, sym, ap, subst, ◌∙◌, ◌⊎◌, inl, inr, arith}
+use Rattle.std.proofs.Common.{◌≡◌, ℕ, ◌+◌, ◌<◌, ◌≤◌, Bool, true, false, cond, not, ◌&&◌, ◌||◌, List, [], ◌∷◌, ◌++◌, length, filter, Option, Some, None, Ok, Err, if◌then◌else◌, IsSome, IsSomeAnd, is_some, nat_lt, nat_le, nat_eq, refl, sym, ap, subst, ◌∙◌, inl, inr, arith}
 use Rattle.std.specs.List.{list_any}
-use Rattle.std.specs.Option.{option_or, option_map, option_map_or}
-use Rattle.std.specs.Ordering.{nat_cmp}
+use Rattle.std.specs.Option.{option_or, option_map_or}
 use Rattle.std.specs.Cmp.Lexicographic.{pointwise, bytes_decides}
 use Rattle.std.proofs.lemmas.Cmp.{nat_cmp_total}
 use Rattle.std.proofs.lemmas.Bool.{false≢true, eqb-true, eq-eqb, lt-ltb, le-ltb, lt-leb, leb-false, and_left, and_right, and_from}
@@ -12,20 +11,18 @@ use Rattle.std.proofs.lemmas.Option.{same_Some}
 use Rattle.std.specs.FinMap.{nat_cmp-IsAntisymmetric}
 use Rattle.std.specs.FinMap as map
 use Rattle.ck_model.specs.declared.key.Key.{Key}
-use Rattle.ck_model.specs.declared.held.Held.{Held}
 use Rattle.ck_model.specs.declared.held.Held.TheVariants.{Absent}
 use Rattle.ck_model.specs.declared.checkpoint.Fileset.{Fileset}
-use Rattle.ck_model.specs.Table.{Table, IsTable, Filesets, column, newer, record_count}
-use Rattle.ck_model.specs.Chain.{first_entry, present, value_of, is_live, is_gone, live_ids, is_live_data, keeps_data, seen}
-use Rattle.ck_model.specs.Rules.{IsOrderly, IsSound, IsNeeded, first_holder}
+use Rattle.ck_model.specs.Table.{Table, IsTable, column, newer, record_count}
+use Rattle.ck_model.specs.Chain.{first_entry, present, value_of, is_live, is_gone, live_ids, is_live_data, seen}
+use Rattle.ck_model.specs.Rules.{IsOrderly, IsSound, IsNeeded}
 use Rattle.ck_table.specs.Names.{is_named, id_named}
 use Rattle.ck_table.specs.Adding.{new_id, with_added}
-use Rattle.ck_table.specs.declared.adding.AddFault.{AddFault}
 use Rattle.ck_table.specs.declared.adding.AddFault.TheVariants.{Exists, TooMany, Spent}
-use Rattle.ck_table.proofs.Ids.{is_other, get-recorded, get-recorded_same, still_there, keys-insert_last, newer-has}
+use Rattle.ck_table.proofs.Ids.{get-recorded, get-recorded_same, still_there, keys-insert_last, newer-has}
 use Rattle.ck_table.proofs.NameLemmas.{unnamed}
-use Rattle.ck_table.proofs.Without.{IsWithout, newer-without, value-without, holder-without, keeps-without, seen-without, get-without, filter-others}
-use Rattle.ck_table.proofs.Sound.{Keeps, Counts, sound_with, still_needed}
+use Rattle.ck_table.proofs.Without.{IsWithout, newer-without, holder-without, keeps-without, seen-without, get-without, filter-others}
+use Rattle.ck_table.proofs.Sound.{Counts, sound_with, still_needed}
 
 -- the next id isn't in use
 unused : (t : Table) → IsOrderly t → map.get t.filesets t.counters.id ≡ None
@@ -52,12 +49,12 @@ before t fileset lawful orderly =
     record {
       entries = refl;
       filesets = map.same_map nat_cmp_total nat_cmp-IsAntisymmetric t.filesets (map.remove (map.insert t.filesets id fileset) id) (λ q. sym (
-        get-recorded (map.insert t.filesets id fileset) id None q
-        ∙ ap (λ o. cond (nat_eq q id) None o) (get-recorded t.filesets id (Some fileset) q)
-        ∙ elim (nat_eq q id) as (λ b. nat_eq q id ≡ b → cond b None (cond b (Some fileset) (map.get t.filesets q)) ≡ map.get t.filesets q) [
-          | true ↦ λ same. sym (ap (map.get t.filesets) (eqb-true q id same) ∙ unused t orderly)
-          | false ↦ λ _. refl
-        ] refl));
+          get-recorded (map.insert t.filesets id fileset) id None q
+          ∙ ap (λ o. cond (nat_eq q id) None o) (get-recorded t.filesets id (Some fileset) q)
+          ∙ elim (nat_eq q id) as (λ b. nat_eq q id ≡ b → cond b None (cond b (Some fileset) (map.get t.filesets q)) ≡ map.get t.filesets q) [
+            | true ↦ λ same. sym (ap (map.get t.filesets) (eqb-true q id same) ∙ unused t orderly)
+            | false ↦ λ _. refl
+          ] refl));
       empty = no_entry t lawful orderly;
     }
 
@@ -186,8 +183,8 @@ sound-added t fileset lawful sound stays free few =
       names = names_differ t fileset orderly (unnamed t fileset.name lawful free);
       ids = ids_below t fileset orderly;
       live =
-        let long = ap length (live_ids-added t fileset lawful orderly stays) ∙ length-append (live_ids t) (t.counters.id ∷ []) in
-        omega (arith, long);
+          let long = ap length (live_ids-added t fileset lawful orderly stays) ∙ length-append (live_ids t) (t.counters.id ∷ []) in
+          omega (arith, long);
       homes = λ fs key _ stands. still_there t.filesets t.counters.id fileset fs stands;
       marks = λ fs stands none. sym (keeps-without (with_added t fileset) t t.counters.id (before t fileset lawful orderly) fs (later t fileset fs (orderly.ids fs stands))) ∙ none;
       absents = needed-added t fileset lawful sound stays;

@@ -1,6 +1,5 @@
 -- The ids of a table's checkpoints, after a record is put under one or taken away.
-use Rattle.std.proofs.Common.{◌≡◌, ℕ, suc, ◌+◌, ◌<◌, Bool, true, false, cond, T, not, ◌&&◌, ◌||◌, List, [], ◌∷◌, ◌++◌, length, map, filter, Option, Some, None, IsSome, nat_lt, nat_eq, is_some, refl, sym, ap, subst, ◌∙◌, arith}
-use Rattle.std.specs.declared.cmp.Ordering.{Ordering}
+use Rattle.std.proofs.Common.{◌≡◌, ℕ, ◌+◌, ◌<◌, Bool, true, false, cond, T, not, ◌&&◌, List, [], ◌∷◌, ◌++◌, length, map, filter, Option, Some, None, IsSome, nat_lt, nat_eq, is_some, refl, sym, ap, subst, ◌∙◌, arith}
 use Rattle.std.specs.declared.cmp.Ordering.TheVariants.{Less, Equal, Greater}
 use Rattle.std.specs.Ordering.{nat_cmp, is_eq, eq_by_cmp}
 use Rattle.std.specs.List.{list_any}
@@ -9,10 +8,9 @@ use Rattle.std.proofs.lemmas.Cmp.{nat_cmp_total, tied_itself}
 use Rattle.std.proofs.lemmas.Bool.{false≢true, eqb-true, eq-eqb}
 use Rattle.std.proofs.lemmas.Bool.Decides.{nat_tests}
 use Rattle.std.proofs.lemmas.List.{map-append}
-use Rattle.std.proofs.lemmas.List.Elements.{filter-append}
 use Rattle.std.proofs.lemmas.Map.Views.{any-filter_same}
 use Rattle.std.specs.FinMap.{find, put, is_sorted, entries_sorted, nat_cmp-IsAntisymmetric}
-use Rattle.std.specs.FinMap.Entries.{by_order, below_all, where_key, length-put, find-where_key, is_sorted-where_key}
+use Rattle.std.specs.FinMap.Entries.{by_order, where_key, length-put, find-where_key, is_sorted-where_key}
 use Rattle.std.specs.FinMap as map
 use Rattle.ck_model.specs.declared.checkpoint.Fileset.{Fileset}
 use Rattle.ck_model.specs.Table.{Table, Filesets, recorded, newer}
@@ -59,7 +57,7 @@ put_last id v (e ∷ es) below =
     let here : IsSome (find nat_cmp e.0 (e ∷ es)) = ap (λ o. is_some (cond (is_eq o) (Some e.1) (find nat_cmp e.0 es))) (tied_itself nat_cmp_total e.0) in
     ap (λ o. by_order o ((id, v) ∷ e ∷ es) ((e.0, v) ∷ es) (e ∷ put nat_cmp id v es)) (sym (nat_cmp_is id e.0 Greater (below e.0 here)))
     ∙ ap (λ rest. e ∷ rest) (put_last id v es (λ x there. below x
-        (elim (eq_by_cmp nat_cmp x e.0) as (λ b. IsSome (cond b (Some e.1) (find nat_cmp x es))) [ true ↦ refl | false ↦ there ])))
+    (elim (eq_by_cmp nat_cmp x e.0) as (λ b. IsSome (cond b (Some e.1) (find nat_cmp x es))) [ true ↦ refl | false ↦ there ])))
 
 pub keys-insert_over : (m : Filesets) (id : ℕ) (fileset : Fileset) → IsSome (map.get m id) → map.keys (map.insert m id fileset) ≡ map.keys m
 keys-insert_over m id fileset stands =
@@ -86,11 +84,11 @@ keys-remove m id =
     let kept = where_key nat_cmp (is_other id) es in
     let sorted = is_sorted-where_key nat_cmp (is_other id) es (entries_sorted m) in
     let same : map.remove m id ≡ map.from_sorted {R = nat_cmp} kept = map.same_map nat_cmp_total nat_cmp-IsAntisymmetric (map.remove m id) (map.from_sorted {R = nat_cmp} kept) (λ q.
-      get-recorded m id None q
-      ∙ elim (nat_eq q id) as (λ b. cond b None (map.get m q) ≡ cond (not b) (map.get m q) None) [ true ↦ refl | false ↦ refl ]
-      ∙ ap (λ o. cond (is_other id q) o None) (map.get-entries m q)
-      ∙ sym (find-where_key nat_cmp (is_other id) q (λ x tied. ap (is_other id) (sym (nat_cmp-IsAntisymmetric q x tied))) es)
-      ∙ sym (map.get-from_sorted nat_cmp kept q sorted)) in
+    get-recorded m id None q
+    ∙ elim (nat_eq q id) as (λ b. cond b None (map.get m q) ≡ cond (not b) (map.get m q) None) [ true ↦ refl | false ↦ refl ]
+    ∙ ap (λ o. cond (is_other id q) o None) (map.get-entries m q)
+    ∙ sym (find-where_key nat_cmp (is_other id) q (λ x tied. ap (is_other id) (sym (nat_cmp-IsAntisymmetric q x tied))) es)
+    ∙ sym (map.get-from_sorted nat_cmp kept q sorted)) in
     ap (λ (u : Filesets). map.keys u) same ∙ ap (λ (l : List (ℕ × Fileset)). ids_of l) (map.entries-from_sorted nat_cmp kept sorted) ∙ ids_where (is_other id) es
 
 -- which ids are among the newer ones

@@ -1,25 +1,23 @@
 -- A table in which a checkpoint leaves: it is gone, or its record is taken away.
-use Rattle.std.proofs.Common.{◌≡◌, ◌≢◌, ℕ, ◌+◌, ◌-◌, ◌<◌, ◌≤◌, Bool, true, false, cond, not, ◌&&◌, ◌||◌, List, [], ◌∷◌, length, filter, Option, Some, None, IsSome, IsSomeAnd, is_some, nat_lt, nat_le, nat_eq, refl, sym, ap, subst, ◌∙◌, ◌⊎◌, inl, inr, arith}
+use Rattle.std.proofs.Common.{◌≡◌, ◌≢◌, ℕ, ◌+◌, ◌-◌, ◌<◌, Bool, true, false, cond, not, ◌&&◌, ◌||◌, List, [], ◌∷◌, length, filter, Some, None, IsSome, IsSomeAnd, is_some, nat_lt, nat_le, nat_eq, refl, sym, ap, subst, ◌∙◌, arith}
 use Rattle.std.specs.List.{list_any}
 use Rattle.std.specs.Option.{option_map, option_map_or}
 use Rattle.std.specs.Ordering.{nat_cmp}
 use Rattle.std.proofs.lemmas.Cmp.{nat_cmp_total}
-use Rattle.std.proofs.lemmas.Bool.{false≢true, true≢false, eqb-true, eq-eqb, le-leb, lt-ltb, and_left, and_right, and_from, and_parts, or_left, or_right, false_from_ne_true}
+use Rattle.std.proofs.lemmas.Bool.{false≢true, true≢false, eqb-true, le-leb, lt-ltb, and_right, and_from, and_parts, or_left, or_right, false_from_ne_true}
 use Rattle.std.proofs.lemmas.List.Sums.{length-filter, count_by-le-length}
 use Rattle.std.proofs.lemmas.Option.{same_Some}
 use Rattle.std.specs.FinMap as map
 use Rattle.ck_model.specs.declared.key.Key.{Key}
-use Rattle.ck_model.specs.declared.held.Held.{Held}
-use Rattle.ck_model.specs.declared.held.Held.TheVariants.{Absent}
 use Rattle.ck_model.specs.declared.checkpoint.Fileset.{Fileset}
 use Rattle.ck_model.specs.Table.{Table, IsTable, Filesets, column, newer, with_fileset, record_count}
 use Rattle.ck_model.specs.Chain.{first_entry, present, value_of, is_live, is_gone, live_ids, is_live_data, keeps_data, as_mark, seen}
 use Rattle.ck_model.specs.World.{keeps_files}
-use Rattle.ck_model.specs.Rules.{IsOrderly, IsSound, IsNeeded, first_holder}
+use Rattle.ck_model.specs.Rules.{IsSound, first_holder}
 use Rattle.ck_table.specs.Leaving.{as_gone, with_gone}
-use Rattle.ck_table.proofs.Ids.{is_other, get-recorded, get-recorded_other, get-recorded_same, still_there, keys-insert_over, newer-has}
-use Rattle.ck_table.proofs.Without.{IsWithout, newer-without, value-without, holder-without, keeps-without, seen-without, get-without, filter-others, filter-dropped}
-use Rattle.ck_table.proofs.Sound.{Keeps, Counts, sound_with, still_needed}
+use Rattle.ck_table.proofs.Ids.{is_other, get-recorded, get-recorded_other, still_there, keys-insert_over, newer-has}
+use Rattle.ck_table.proofs.Without.{IsWithout, newer-without, value-without, holder-without, keeps-without, seen-without, filter-others, filter-dropped}
+use Rattle.ck_table.proofs.Sound.{Counts, sound_with, still_needed}
 
 stands_live : (t : Table) (x : ℕ) → is_live t x ≡ true → IsSome (map.get t.filesets x)
 stands_live t x live = elim (map.get t.filesets x) as (λ o. option_map_or (λ (f : Fileset). not f.gone) o false ≡ true → IsSome o) [ None ↦ λ h. h | Some f ↦ λ _. refl ] live
@@ -140,16 +138,16 @@ sound_gone t id f is sound =
       names = λ a b g h is_a is_b live_a live_b same. sound.orderly.names a b g h (old_one t id f a g is_a live_a) (old_one t id f b h is_b live_b) live_a live_b same;
       ids = λ x stands. sound.orderly.ids x (ids_gone t id f is x stands);
       live =
-        let fewer = ap length (live_ids_gone t id f is) ∙ length-filter (is_other id) (live_ids t) in
-        let most = count_by-le-length (is_other id) (live_ids t) in
-        let before = sound.orderly.live in
-        omega (arith, fewer, most, before);
+          let fewer = ap length (live_ids_gone t id f is) ∙ length-filter (is_other id) (live_ids t) in
+          let most = count_by-le-length (is_other id) (live_ids t) in
+          let before = sound.orderly.live in
+          omega (arith, fewer, most, before);
       homes = λ fs key _ stands. still_there t.filesets id (as_gone f) fs stands;
       marks = λ fs stands none. false_from_ne_true (keeps_data u fs) (λ keeps. true≢false (sym (keeps_gone t id f is fs keeps) ∙ none));
       absents = λ fs key live absent.
-        let was = sound.absents fs key (and_parts (is_live t fs) (is_other id fs) (sym (is_live-gone t id f fs) ∙ live)).0 absent in
-        let now = still_needed (column t key) (is_gone t) (is_gone u) (λ x _ gone. gone_stays t id f x gone) (newer t fs) was in
-        subst (λ ids. IsSomeAnd (first_holder (column t key) ids) (Counts (is_gone u))) (sym (newer-gone t id f is fs)) now;
+          let was = sound.absents fs key (and_parts (is_live t fs) (is_other id fs) (sym (is_live-gone t id f fs) ∙ live)).0 absent in
+          let now = still_needed (column t key) (is_gone t) (is_gone u) (λ x _ gone. gone_stays t id f x gone) (newer t fs) was in
+          subst (λ ids. IsSomeAnd (first_holder (column t key) ids) (Counts (is_gone u))) (sym (newer-gone t id f is fs)) now;
     })
 
 -- what holds of the table with the record of a checkpoint that stands marked so
@@ -183,15 +181,15 @@ unlinked t id empty = record { entries = refl; filesets = refl; empty = empty }
 
 not_live : (t : Table) (id : ℕ) → is_gone t id ≡ true → is_live t id ≡ false
 not_live t id gone = elim (map.get t.filesets id) as (λ o. option_map_or (λ (g : Fileset). g.gone) o false ≡ true → option_map_or (λ (g : Fileset). not g.gone) o false ≡ false) [
-    | None ↦ λ _. refl
-    | Some g ↦ λ h. ap not h
-  ] gone
+  | None ↦ λ _. refl
+  | Some g ↦ λ h. ap not h
+] gone
 
 not_live_data : (t : Table) (id : ℕ) → is_gone t id ≡ true → is_live_data t id ≡ false
 not_live_data t id gone = elim (map.get t.filesets id) as (λ o. option_map_or (λ (g : Fileset). g.gone) o false ≡ true → option_map_or (λ (g : Fileset). not g.gone && keeps_files g.kind) o false ≡ false) [
-    | None ↦ λ _. refl
-    | Some g ↦ λ h. ap (λ b. not b && keeps_files g.kind) h
-  ] gone
+  | None ↦ λ _. refl
+  | Some g ↦ λ h. ap (λ b. not b && keeps_files g.kind) h
+] gone
 
 stands_gone : (t : Table) (id : ℕ) → is_gone t id ≡ true → IsSome (map.get t.filesets id)
 stands_gone t id gone = elim (map.get t.filesets id) as (λ o. option_map_or (λ (g : Fileset). g.gone) o false ≡ true → IsSome o) [ None ↦ λ h. h | Some g ↦ λ _. refl ] gone
@@ -250,13 +248,13 @@ sound-unlinked t id gone empty sound =
       names = λ a b g h is_a is_b live_a live_b same. sound.orderly.names a b g h (stood t id a g is_a) (stood t id b h is_b) live_a live_b same;
       ids = λ x stands. sound.orderly.ids x (is_one t id x stands);
       live =
-        let same = ap length (live_ids-unlinked t id gone empty) in
-        let before = sound.orderly.live in
-        omega (arith, same, before);
+          let same = ap length (live_ids-unlinked t id gone empty) in
+          let before = sound.orderly.live in
+          omega (arith, same, before);
       homes = λ fs key entry stands. ap is_some (get-recorded_other t.filesets id None fs (other_one t id fs key (empty key) entry)) ∙ stands;
       marks = λ fs stands none. keeps-without t u id without fs (and_right (nat_le id fs) (is_live_data t id) (not_live_data t id gone)) ∙ none;
       absents = λ fs key live absent.
-        let was = sound.absents fs key (was_live t id fs live) absent in
-        let now = still_needed (column t key) (is_gone t) (is_gone u) (λ x entry is. ap (λ o. option_map_or (λ (g : Fileset). g.gone) o false) (get-recorded_other t.filesets id None x (other_one t id x key (empty key) entry)) ∙ is) (newer t fs) was in
-        subst (λ o. IsSomeAnd o (Counts (is_gone u))) (sym (holder-without t u id without fs key)) now;
+          let was = sound.absents fs key (was_live t id fs live) absent in
+          let now = still_needed (column t key) (is_gone t) (is_gone u) (λ x entry is. ap (λ o. option_map_or (λ (g : Fileset). g.gone) o false) (get-recorded_other t.filesets id None x (other_one t id x key (empty key) entry)) ∙ is) (newer t fs) was in
+          subst (λ o. IsSomeAnd o (Counts (is_gone u))) (sym (holder-without t u id without fs key)) now;
     })

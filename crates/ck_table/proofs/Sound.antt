@@ -1,5 +1,5 @@
 -- The rules of a table after its checkpoints' records change and no entry does.
-use Rattle.std.proofs.Common.{◌≡◌, ℕ, ◌<◌, ◌≤◌, Bool, true, false, List, [], ◌∷◌, Option, Some, None, IsSome, IsSomeAnd, is_some, length, ◌≢◌, refl, sym, ap, subst, ◌∙◌, ◌⊎◌, inl, inr}
+use Rattle.std.proofs.Common.{◌≡◌, ℕ, ◌<◌, ◌≤◌, Bool, true, false, List, [], ◌∷◌, Option, Some, None, IsSome, IsSomeAnd, is_some, length, ◌≢◌, refl, sym, ap, ◌∙◌, ◌⊎◌, inl, inr}
 use Rattle.std.specs.FinMap as map
 use Rattle.ck_model.specs.declared.key.Key.{Key}
 use Rattle.ck_model.specs.declared.held.Held.{Held}
@@ -7,7 +7,7 @@ use Rattle.ck_model.specs.declared.held.Held.TheVariants.{Absent, Mark}
 use Rattle.ck_model.specs.declared.checkpoint.Fileset.{Fileset}
 use Rattle.ck_model.specs.Table.{Table, Filesets, column}
 use Rattle.ck_model.specs.Chain.{is_live, live_ids, keeps_data}
-use Rattle.ck_model.specs.Rules.{IsOrderly, IsSound, IsNeeded, IsOwn, first_holder}
+use Rattle.ck_model.specs.Rules.{IsOrderly, IsSound, IsNeeded, first_holder}
 use Rattle.std.specs.Option.{option_or, option_map}
 
 -- the table with these records and this next id

@@ -1,5 +1,5 @@
 -- A table without a checkpoint that has no entry: what its other checkpoints read.
-use Rattle.std.proofs.Common.{◌≡◌, ℕ, Bool, true, false, cond, not, ◌&&◌, ◌||◌, List, [], ◌∷◌, ◌++◌, filter, Option, Some, None, nat_lt, nat_le, nat_eq, refl, sym, ap, subst, ◌∙◌, arith}
+use Rattle.std.proofs.Common.{◌≡◌, ℕ, Bool, true, false, cond, not, ◌&&◌, ◌||◌, List, [], ◌∷◌, filter, Option, None, nat_lt, nat_le, nat_eq, refl, sym, ap, ◌∙◌}
 use Rattle.std.specs.List.{list_any}
 use Rattle.std.specs.Option.{option_or, option_map, option_map_or}
 use Rattle.std.proofs.lemmas.Bool.{eqb-true}
@@ -8,7 +8,7 @@ use Rattle.ck_model.specs.declared.key.Key.{Key}
 use Rattle.ck_model.specs.declared.held.Held.{Held}
 use Rattle.ck_model.specs.declared.checkpoint.Fileset.{Fileset}
 use Rattle.ck_model.specs.World.{keeps_files}
-use Rattle.ck_model.specs.Table.{Table, Filesets, column, newer, with_fileset}
+use Rattle.ck_model.specs.Table.{Table, Filesets, column, newer}
 use Rattle.ck_model.specs.Chain.{first_entry, present, value_of, is_live_data, keeps_data, as_mark, seen}
 use Rattle.ck_model.specs.Rules.{first_holder}
 use Rattle.ck_table.proofs.Ids.{is_other, keys-remove, get-recorded}
@@ -125,7 +125,7 @@ keeps-without t u id without fs fails =
     let in_t : ℕ → Bool = λ x. nat_le x fs && is_live_data t x in
     let in_u : ℕ → Bool = λ x. nat_le x fs && is_live_data u x in
     let same : (x : ℕ) → nat_eq x id ≡ false → in_u x ≡ in_t x = λ x apart.
-      ap (λ o. nat_le x fs && option_map_or (λ (fileset : Fileset). not fileset.gone && keeps_files fileset.kind) o false) (get-without t u id without x apart) in
+    ap (λ o. nat_le x fs && option_map_or (λ (fileset : Fileset). not fileset.gone && keeps_files fileset.kind) o false) (get-without t u id without x apart) in
     ap (list_any in_u) (newer-without t u id without 0) ∙ any-others in_u in_t id same (newer t 0) ∙ any-dropped in_t id fails (newer t 0)
 
 pub seen-without : (t u : Table) (id : ℕ) → IsWithout t u id → (fs : ℕ) (key : Key) → (nat_le id fs && is_live_data t id) ≡ false → seen u fs key ≡ seen t fs key

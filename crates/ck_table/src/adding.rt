@@ -85,12 +85,15 @@ pub fn add<M: Meta>(
     ensures count { OnOk result (record_count (M.table meta.new) ≡ record_count (M.table meta.old) + 1) }
 {
     let id = new_id(meta, name)?;
-    enter(meta, Fileset {
-        name: *name,
-        kind,
-        removable,
-        gone: false,
-        ctime: at,
-    });
+    enter(
+        meta,
+        Fileset {
+            name: *name,
+            kind,
+            removable,
+            gone: false,
+            ctime: at,
+        },
+    );
     Ok(id)
 }

@@ -21,10 +21,13 @@ pub fn mark_gone<M: Meta>(meta: &mut M, id: u32)
     ensures count { record_count (M.table meta.new) ≡ record_count (M.table meta.old) }
 {
     let fileset = meta.fileset(id).unwrap();
-    meta.put_fileset(id, Fileset {
-        gone: true,
-        ..fileset
-    });
+    meta.put_fileset(
+        id,
+        Fileset {
+            gone: true,
+            ..fileset
+        },
+    );
 }
 
 /// Takes away the record of a checkpoint that is gone and has no entry any more.

@@ -1,5 +1,5 @@
-use Rattle.std.proofs.Common.{◌≡◌, ◌∷◌, [], ◌++◌, refl, sym, ap, subst, ◌∙◌}
-use Rattle.ck_model.specs.Table.{Table, record_count}
+use Rattle.std.proofs.Common.{◌∷◌, [], ◌++◌, refl, sym, ap, subst, ◌∙◌}
+use Rattle.ck_model.specs.Table.{record_count}
 use Rattle.ck_model.specs.Chain.{live_ids, value_of, seen}
 use Rattle.ck_model.specs.Rules.{IsSound}
 use Rattle.ck_table.specs.Adding.{new_fileset}

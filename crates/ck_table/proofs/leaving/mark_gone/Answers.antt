@@ -1,9 +1,9 @@
-use Rattle.std.proofs.Common.{◌≡◌, sym, ap, subst, ◌∙◌}
+use Rattle.std.proofs.Common.{sym, ap, subst, ◌∙◌}
 use Rattle.std.specs.Option.{option_map}
-use Rattle.ck_model.specs.Table.{Table, IsTable, record_count, with_fileset}
+use Rattle.ck_model.specs.Table.{IsTable, record_count, with_fileset}
 use Rattle.ck_model.specs.Chain.{live_ids, value_of, seen}
 use Rattle.ck_model.specs.Rules.{IsSound}
-use Rattle.ck_table.specs.Leaving.{as_gone, with_gone}
+use Rattle.ck_table.specs.Leaving.{as_gone}
 use Rattle.ck_table.proofs.LeaveLemmas.{sound-with_gone, live_ids-with_gone, value-with_gone, seen-with_gone, record_count-with_gone}
 use Rattle.ck_table.proofs.leaving.mark_gone.Goals as goal
 

@@ -1,4 +1,4 @@
-use Rattle.std.proofs.Common.{◌≡◌, ◌≤◌, ℕ, ◌+◌, ◌-◌, ◌^◌, length, filter}
+use Rattle.std.proofs.Common.{◌≡◌, ◌≤◌, ◌+◌, ◌-◌, ◌^◌, length, filter}
 use Rattle.ck_model.specs.Table.{newer}
 use Rattle.ck_model.specs.Chain.{is_live, live_ids}
 use Rattle.ck_table.proofs.listing.count_live.Given as goal

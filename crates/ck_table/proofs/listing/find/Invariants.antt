@@ -1,4 +1,4 @@
-use Rattle.std.proofs.Common.{◌≡◌, ℕ, ◌-◌, ◌^◌, find}
+use Rattle.std.proofs.Common.{◌≡◌, ◌-◌, ◌^◌, find}
 use Rattle.ck_model.specs.Table.{newer}
 use Rattle.ck_table.specs.Names.{is_named, id_named}
 use Rattle.ck_table.proofs.listing.find.Given as goal

@@ -1,4 +1,4 @@
-use Rattle.std.proofs.Common.{◌≡◌, ℕ, ◌-◌, ◌^◌, ◌++◌, filter}
+use Rattle.std.proofs.Common.{◌≡◌, ◌-◌, ◌^◌, ◌++◌, filter}
 use Rattle.ck_model.specs.Table.{newer}
 use Rattle.ck_model.specs.Chain.{is_live, live_ids}
 use Rattle.ck_table.proofs.listing.live.Given as goal
