@@ -53,7 +53,8 @@ pub fn name_at<M: Meta>(
     of_slash: Reply,
     names: &[NameBytes],
 ) -> Result<Key, Reply>
-    ensures { (cells : Cells) → StandsFor (M.table meta.now) fs cells → result ≡ name_at cells of_slash names.now }
+    ensures value { (cells : Cells) → StandsFor (M.table meta.now) fs cells → result ≡ name_at cells of_slash names.now }
+    ensures ordinary { is_fault of_slash ≡ false → IfErr result (λ reply. is_fault reply ≡ false) }
 {
     if names.is_empty() {
         return Err(of_slash);
@@ -65,7 +66,8 @@ pub fn name_at<M: Meta>(
 
 /// The key of a last name that doesn't stand yet.
 pub fn new_name_at<M: Meta>(meta: &M, fs: u32, names: &[NameBytes]) -> Result<Key, Reply>
-    ensures { (cells : Cells) → StandsFor (M.table meta.now) fs cells → result ≡ new_name_at cells names.now }
+    ensures value { (cells : Cells) → StandsFor (M.table meta.now) fs cells → result ≡ new_name_at cells names.now }
+    ensures ordinary { IfErr result (λ reply. is_fault reply ≡ false) }
 {
     let key = name_at(meta, fs, Reply::Exists, names)?;
     if stands_at(meta, fs, &key) {
