@@ -2,11 +2,13 @@
 //! its last name. Generic over the table.
 #![tactic(auto)]
 
+mod blocks;
 mod naming;
 mod nodes;
 mod value;
 mod walking;
 
+pub use blocks::unused_block;
 pub use naming::{directory_at, file_at, name_at, new_name_at, node_at};
 pub use nodes::{is_directory_at, size_at};
 pub use walking::walk;
