@@ -168,6 +168,10 @@ pub seen-with_gone : (t : Table) (id : ℕ) → is_live t id ≡ true → IsTabl
 seen-with_gone t id live lawful after fs key differs data_one =
     at_gone t id (λ u. IsTable u → seen u fs key ≡ seen t fs key) live (λ f is after. seen_gone t id f is lawful after fs key differs data_one) after
 
+pub keeps-with_gone : (t : Table) (id : ℕ) → is_live t id ≡ true → (fs : ℕ) → keeps_data t fs ≡ false → keeps_data (with_gone t id) fs ≡ false
+keeps-with_gone t id live fs none =
+    false_from_ne_true (keeps_data (with_gone t id) fs) (λ keeps. at_gone t id (λ u. keeps_data u fs ≡ true → ⊥) live (λ f is keeps. true≢false (sym (keeps_gone t id f is fs keeps) ∙ none)) keeps)
+
 pub record_count-with_gone : (t : Table) (id : ℕ) → is_live t id ≡ true → record_count (with_gone t id) ≡ record_count t
 record_count-with_gone t id live = at_gone t id (λ u. record_count u ≡ record_count t) live (record_count_gone t id)
 

@@ -18,8 +18,10 @@ new_id t name =
 
 -- a checkpoint that stands
 abbrev pub new_fileset : List ℕ → Kind → Bool → ℕ → Fileset
-new_fileset name kind removable ctime = record { name = name; kind = kind; removable = removable; gone = false; ctime = ctime }
+new_fileset name kind removable ctime =
+    record { name = name; kind = kind; removable = removable; gone = false; ctime = ctime }
 
 -- the table with this record under the next id, and the next id raised by one
 abbrev pub with_added : Table → Fileset → Table
-with_added t fileset = with_counters (with_fileset t t.counters.id (Some fileset)) (record (t.counters) { id = t.counters.id + 1 })
+with_added t fileset =
+    with_counters (with_fileset t t.counters.id (Some fileset)) (record (t.counters) { id = t.counters.id + 1 })

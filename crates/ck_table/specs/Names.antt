@@ -7,7 +7,9 @@ use Rattle.ck_model.specs.Table.{Table, newer}
 
 -- the checkpoint isn't gone and has this name
 abbrev pub is_named : Table → List ℕ → ℕ → Bool
-is_named t name id = option_map_or (λ fileset. not fileset.gone && pointwise nat_eq fileset.name name) (map.get t.filesets id) false
+is_named t name id =
+    option_map_or (λ fileset. not fileset.gone && pointwise nat_eq fileset.name name)
+    (map.get t.filesets id) false
 
 -- the oldest one that isn't gone and has the name
 abbrev pub id_named : Table → List ℕ → Option ℕ

@@ -72,17 +72,22 @@ pub fn add<M: Meta>(
     requires name { IsCheckpointName name.now }
     requires sound { IsSound (M.table meta.old) }
     ensures result { result ≡ new_id (M.table meta.old) name.now }
-    ensures ok { OnOk result (M.table meta.new ≡ with_added (M.table meta.old) (new_fileset name.now kind removable at)) }
+    ensures ok { OnOk result (M.table meta.new
+        ≡ with_added (M.table meta.old) (new_fileset name.now kind removable at)) }
     ensures err { OnErr result (M.table meta.new ≡ M.table meta.old) }
     ensures sound { IsSound (M.table meta.new) }
 
     // It is the newest, and stands.
-    ensures lives { IfOk result (λ id. live_ids (M.table meta.new) ≡ live_ids (M.table meta.old) ++ id ∷ []) }
+    ensures lives { IfOk result (λ id. live_ids (M.table meta.new)
+        ≡ live_ids (M.table meta.old) ++ id ∷ []) }
     // Its contents are the primary's.
-    ensures contents { IfOk result (λ id. (key : Key) → value_of (M.table meta.new) id key ≡ present (column (M.table meta.old) key 0)) }
+    ensures contents { IfOk result (λ id. (key : Key)
+        → value_of (M.table meta.new) id key ≡ present (column (M.table meta.old) key 0)) }
     // The others' readers see what they saw.
-    ensures kept { (fs : ℕ) (key : Key) → is_live (M.table meta.old) fs ≡ true → seen (M.table meta.new) fs key ≡ seen (M.table meta.old) fs key }
-    ensures count { OnOk result (record_count (M.table meta.new) ≡ record_count (M.table meta.old) + 1) }
+    ensures kept { (fs : ℕ) (key : Key) → is_live (M.table meta.old) fs ≡ true
+        → seen (M.table meta.new) fs key ≡ seen (M.table meta.old) fs key }
+    ensures count { OnOk result (record_count (M.table meta.new)
+        ≡ record_count (M.table meta.old) + 1) }
 {
     let id = new_id(meta, name)?;
     enter(

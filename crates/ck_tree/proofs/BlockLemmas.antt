@@ -1,5 +1,5 @@
 -- Data blocks that are named, and those that aren't.
-use Rattle.std.proofs.Common.{◌≡◌, ℕ, ◌<◌, ◌≤◌, Bool, true, false, cond, ◌&&◌, ◌||◌, List, [], ◌∷◌, length, map as list_map, filter, Option, Some, None, IsSome, is_some, nat_lt, nat_eq, refl, sym, ap, ◌∙◌, ◌⊎◌, inl, inr}
+use Rattle.std.proofs.Common.{◌≡◌, ℕ, ◌<◌, ◌≤◌, Bool, true, false, cond, List, [], ◌∷◌, length, map as list_map, filter, Some, None, IsSome, is_some, nat_lt, nat_eq, refl, sym, ap, ◌∙◌, inl, inr}
 use Rattle.std.specs.declared.cmp.Ordering.{Ordering}
 use Rattle.std.specs.declared.cmp.Ordering.TheVariants.{Less, Equal, Greater}
 use Rattle.std.specs.Ordering.{is_eq, eq_by_cmp}
@@ -13,7 +13,6 @@ use Rattle.std.specs.FinMap.{find}
 use Rattle.std.specs.FinMap as map
 use Rattle.ck_model.specs.declared.key.Key.{Key}
 use Rattle.ck_model.specs.declared.held.Held.{Held}
-use Rattle.ck_model.specs.declared.checkpoint.Fileset.{Fileset}
 use Rattle.ck_model.specs.Key.{entry_cmp, entry_cmp_exact}
 use Rattle.ck_model.specs.Table.{Table, IsTable, column, newer, keys_in}
 use Rattle.ck_model.specs.Rules.{IsOrderly, block_in}

@@ -34,8 +34,9 @@ without_bytes (Some payload.Dir) = Some payload.Dir
 without_bytes (Some (payload.Bytes bytes)) = None
 without_bytes None = None
 
--- each key has a cell where the fileset has a value there, and the cell holds the value's name or node.
--- What a block holds isn't said
+-- each key has a cell where the fileset has a value there, and the cell holds the value's name or
+-- node. What a block holds isn't said
 pub record StandsFor (t : Table) (fs : ℕ) (cells : Cells) : Type 0 where
   pub present : (key : Key) → map.contains_key cells key ≡ is_some (value_at t fs key)
-  pub small : (key : Key) → without_bytes (content_at cells key) ≡ option_map payload_of (small_in (value_at t fs key))
+  pub small : (key : Key)
+      → without_bytes (content_at cells key) ≡ option_map payload_of (small_in (value_at t fs key))

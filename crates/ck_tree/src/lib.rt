@@ -1,5 +1,5 @@
-//! Paths in the primary or in a checkpoint of a table: the node that a path leads to, and the key of
-//! its last name. Generic over the table.
+//! Paths in the primary or in a checkpoint of a table: the node that a path leads to, and the key
+//! of its last name. Data blocks: one that no entry names. Generic over the table.
 #![tactic(auto)]
 
 mod blocks;

@@ -10,7 +10,8 @@ use ck_model::{Key, Meta, NameBytes, Reply, WalkFault};
 
 /// The node that a path leads to, or the reply that refuses it.
 pub fn node_at<M: Meta>(meta: &M, fs: u32, names: &[NameBytes]) -> Result<u32, Reply>
-    ensures value { (cells : Cells) → StandsFor (M.table meta.now) fs cells → result ≡ node_at cells names.now }
+    ensures value { (cells : Cells) → StandsFor (M.table meta.now) fs cells
+        → result ≡ node_at cells names.now }
     ensures ordinary { IfErr result (λ reply. is_fault reply ≡ false) }
 {
     match walk_names(meta, fs, names) {
@@ -22,7 +23,8 @@ pub fn node_at<M: Meta>(meta: &M, fs: u32, names: &[NameBytes]) -> Result<u32, R
 
 /// The file that a path leads to.
 pub fn file_at<M: Meta>(meta: &M, fs: u32, names: &[NameBytes]) -> Result<u32, Reply>
-    ensures value { (cells : Cells) → StandsFor (M.table meta.now) fs cells → result ≡ file_at cells names.now }
+    ensures value { (cells : Cells) → StandsFor (M.table meta.now) fs cells
+        → result ≡ file_at cells names.now }
     ensures ordinary { IfErr result (λ reply. is_fault reply ≡ false) }
 {
     let node = node_at(meta, fs, names)?;
@@ -35,7 +37,8 @@ pub fn file_at<M: Meta>(meta: &M, fs: u32, names: &[NameBytes]) -> Result<u32, R
 
 /// The directory that a path leads to.
 pub fn directory_at<M: Meta>(meta: &M, fs: u32, names: &[NameBytes]) -> Result<u32, Reply>
-    ensures value { (cells : Cells) → StandsFor (M.table meta.now) fs cells → result ≡ directory_at cells names.now }
+    ensures value { (cells : Cells) → StandsFor (M.table meta.now) fs cells
+        → result ≡ directory_at cells names.now }
     ensures ordinary { IfErr result (λ reply. is_fault reply ≡ false) }
 {
     let node = node_at(meta, fs, names)?;
@@ -53,7 +56,8 @@ pub fn name_at<M: Meta>(
     of_slash: Reply,
     names: &[NameBytes],
 ) -> Result<Key, Reply>
-    ensures value { (cells : Cells) → StandsFor (M.table meta.now) fs cells → result ≡ name_at cells of_slash names.now }
+    ensures value { (cells : Cells) → StandsFor (M.table meta.now) fs cells
+        → result ≡ name_at cells of_slash names.now }
     ensures ordinary { is_fault of_slash ≡ false → IfErr result (λ reply. is_fault reply ≡ false) }
 {
     if names.is_empty() {
@@ -66,7 +70,8 @@ pub fn name_at<M: Meta>(
 
 /// The key of a last name that doesn't stand yet.
 pub fn new_name_at<M: Meta>(meta: &M, fs: u32, names: &[NameBytes]) -> Result<Key, Reply>
-    ensures value { (cells : Cells) → StandsFor (M.table meta.now) fs cells → result ≡ new_name_at cells names.now }
+    ensures value { (cells : Cells) → StandsFor (M.table meta.now) fs cells
+        → result ≡ new_name_at cells names.now }
     ensures ordinary { IfErr result (λ reply. is_fault reply ≡ false) }
 {
     let key = name_at(meta, fs, Reply::Exists, names)?;

@@ -1,7 +1,15 @@
 ghost use Rattle.std.specs.Prelude.{◌≡◌};
 ghost use Rattle.std.specs.Option.{option_map};
 ghost use Rattle.std.specs.FinMap as map;
-ghost use Rattle.ck_model.specs.Cells.{Cells, content_at, named_node, is_directory, size_in, is_directory_at, size_at};
+ghost use Rattle.ck_model.specs.Cells.{
+  Cells,
+  content_at,
+  named_node,
+  is_directory,
+  size_in,
+  is_directory_at,
+  size_at,
+};
 ghost use Rattle.ck_model.specs.Chain.{value_at};
 ghost use Rattle.ck_tree.specs.Standing.{payload_of, small_in, StandsFor};
 
@@ -49,27 +57,31 @@ fn size_in(small: Option<Small>) -> u64
 
 /// Whether a key has a cell.
 pub fn stands_at<M: Meta>(meta: &M, fs: u32, key: &Key) -> bool
-    ensures { (cells : Cells) → StandsFor (M.table meta.now) fs cells → result ≡ map.contains_key cells key.now }
+    ensures { (cells : Cells) → StandsFor (M.table meta.now) fs cells
+        → result ≡ map.contains_key cells key.now }
 {
     held_at(meta, fs, key).is_some()
 }
 
 /// The node that the key's cell names.
 pub fn named_at<M: Meta>(meta: &M, fs: u32, key: &Key) -> Option<u32>
-    ensures { (cells : Cells) → StandsFor (M.table meta.now) fs cells → result ≡ named_node (content_at cells key.now) }
+    ensures { (cells : Cells) → StandsFor (M.table meta.now) fs cells
+        → result ≡ named_node (content_at cells key.now) }
 {
     named(small_at(meta, fs, key))
 }
 
 pub fn is_directory_at<M: Meta>(meta: &M, fs: u32, node: u32) -> bool
-    ensures { (cells : Cells) → StandsFor (M.table meta.now) fs cells → result ≡ is_directory_at cells node }
+    ensures { (cells : Cells) → StandsFor (M.table meta.now) fs cells
+        → result ≡ is_directory_at cells node }
 {
     is_directory(small_at(meta, fs, &Key::Node(node)))
 }
 
 /// The size of a file in bytes, and 0 of anything else.
 pub fn size_at<M: Meta>(meta: &M, fs: u32, node: u32) -> u64
-    ensures { (cells : Cells) → StandsFor (M.table meta.now) fs cells → result ≡ size_at cells node }
+    ensures { (cells : Cells) → StandsFor (M.table meta.now) fs cells
+        → result ≡ size_at cells node }
 {
     size_in(small_at(meta, fs, &Key::Node(node)))
 }

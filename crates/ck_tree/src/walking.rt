@@ -8,7 +8,8 @@ use ck_model::{Key, Meta, NameBytes, Path, WalkFault};
 
 /// From a node to the one that a name in it names.
 fn entered<M: Meta>(meta: &M, fs: u32, node: u32, name: &NameBytes) -> Result<u32, WalkFault>
-    ensures { (cells : Cells) → StandsFor (M.table meta.now) fs cells → result ≡ entered cells node name.now }
+    ensures { (cells : Cells) → StandsFor (M.table meta.now) fs cells
+        → result ≡ entered cells node name.now }
 {
     if !stands_at(meta, fs, &Key::Node(node)) {
         return Err(WalkFault::NotFound);
@@ -21,7 +22,8 @@ fn entered<M: Meta>(meta: &M, fs: u32, node: u32, name: &NameBytes) -> Result<u3
 
 /// The node that names lead to from the root.
 pub fn walk_names<M: Meta>(meta: &M, fs: u32, names: &[NameBytes]) -> Result<u32, WalkFault>
-    ensures { (cells : Cells) → StandsFor (M.table meta.now) fs cells → result ≡ walk cells names.now }
+    ensures { (cells : Cells) → StandsFor (M.table meta.now) fs cells
+        → result ≡ walk cells names.now }
 {
     let mut node = 0;
     for name in names {
@@ -36,7 +38,8 @@ pub fn walk_names<M: Meta>(meta: &M, fs: u32, names: &[NameBytes]) -> Result<u32
 
 /// The node that a path leads to in a fileset; fileset 0 is the primary.
 pub fn walk<M: Meta>(meta: &M, fs: u32, path: &Path) -> Result<u32, WalkFault>
-    ensures { (cells : Cells) → StandsFor (M.table meta.now) fs cells → result ≡ walk cells path.now }
+    ensures { (cells : Cells) → StandsFor (M.table meta.now) fs cells
+        → result ≡ walk cells path.now }
 {
     walk_names(meta, fs, path.items())
 }

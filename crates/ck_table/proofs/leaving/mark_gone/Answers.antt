@@ -1,10 +1,10 @@
 use Rattle.std.proofs.Common.{sym, ap, subst, ◌∙◌}
 use Rattle.std.specs.Option.{option_map}
 use Rattle.ck_model.specs.Table.{IsTable, record_count, with_fileset}
-use Rattle.ck_model.specs.Chain.{live_ids, value_of, seen}
+use Rattle.ck_model.specs.Chain.{keeps_data, live_ids, value_of, seen}
 use Rattle.ck_model.specs.Rules.{IsSound}
 use Rattle.ck_table.specs.Leaving.{as_gone}
-use Rattle.ck_table.proofs.LeaveLemmas.{sound-with_gone, live_ids-with_gone, value-with_gone, seen-with_gone, record_count-with_gone}
+use Rattle.ck_table.proofs.LeaveLemmas.{sound-with_gone, live_ids-with_gone, value-with_gone, seen-with_gone, keeps-with_gone, record_count-with_gone}
 use Rattle.ck_table.proofs.leaving.mark_gone.Goals as goal
 
 pub returns-clause-sound : goal.returns-clause-sound
@@ -37,3 +37,9 @@ returns-clause-count g c =
     let t = g.M.Meta.table c.args.meta.now in
     let same = c.put_fileset.ensures ∙ ap (λ o. with_fileset t c.args.id (option_map as_gone o)) (sym c.unwrap-fileset.ensures ∙ c.fileset.ensures) in
     ap record_count same ∙ record_count-with_gone t c.args.id c.requires.live
+
+pub returns-clause-no_data : goal.returns-clause-no_data
+returns-clause-no_data g c fs none =
+    let t = g.M.Meta.table c.args.meta.now in
+    let same = c.put_fileset.ensures ∙ ap (λ o. with_fileset t c.args.id (option_map as_gone o)) (sym c.unwrap-fileset.ensures ∙ c.fileset.ensures) in
+    ap (λ u. keeps_data u fs) same ∙ keeps-with_gone t c.args.id c.requires.live fs none

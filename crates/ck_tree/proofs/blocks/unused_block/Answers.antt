@@ -1,4 +1,4 @@
-use Rattle.std.proofs.Common.{◌≡◌, ◌<◌, false, length, get_or, sym, ap, ◌∙◌, arith}
+use Rattle.std.proofs.Common.{◌<◌, false, length, get_or, sym, ap, ◌∙◌, arith}
 use Rattle.ck_tree.proofs.BlockLemmas.{unused_at, all_named}
 use Rattle.ck_tree.proofs.blocks.unused_block.Goals as goal
 
@@ -16,5 +16,5 @@ pub returns-clause-none : goal.returns-clause-none
 returns-clause-none g c =
     let long = ap length c.deref.ensures.value ∙ c.in_ok-used.ensures.len in
     all_named (g.M.Meta.table c.args.meta.now) c.args.blocks (λ block below.
-      let within : block < length c.deref.result.now = omega (arith, long, below) in
-      sym (c.in_ok-used.ensures.marks block below) ∙ sym (ap (λ used. get_or used block false) c.deref.ensures.value) ∙ c.in-None.ensures.none block within)
+    let within : block < length c.deref.result.now = omega (arith, long, below) in
+    sym (c.in_ok-used.ensures.marks block below) ∙ sym (ap (λ used. get_or used block false) c.deref.ensures.value) ∙ c.in-None.ensures.none block within)
