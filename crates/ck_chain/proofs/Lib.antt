@@ -1,3 +1,6 @@
 pub mod Newer
 pub mod Columns
 pub mod Laws
+pub mod Counts
+pub mod Orderly
+pub mod Holders

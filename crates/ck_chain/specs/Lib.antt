@@ -1,2 +1,3 @@
 pub mod Needless
 pub mod Kept
+pub mod Naming
