@@ -4,3 +4,4 @@ pub mod Laws
 pub mod Counts
 pub mod Orderly
 pub mod Holders
+pub mod TidyLaws

@@ -55,7 +55,25 @@ fn is_needless<M: Meta>(meta: &M, fs: u32, key: &Key) -> bool
 pub fn tidy<M: Meta>(meta: &mut M, fs: u32, key: &Key)
     requires live { is_live (M.table meta.old) fs ≡ true }
     requires orderly { IsOrderly (M.table meta.old) }
-    ensures { M.table meta.new ≡ tidied (M.table meta.old) fs key.now }
+    ensures tidied { M.table meta.new ≡ tidied (M.table meta.old) fs key.now }
+    ensures filesets { (M.table meta.new).filesets ≡ (M.table meta.old).filesets }
+    ensures counters { (M.table meta.new).counters ≡ (M.table meta.old).counters }
+    ensures blocks { (M.table meta.new).blocks ≡ (M.table meta.old).blocks }
+    ensures limit { (M.table meta.new).records ≡ (M.table meta.old).records }
+    ensures records { record_count (M.table meta.new) ≤ record_count (M.table meta.old) }
+    ensures primary { (q : Key) → column (M.table meta.new) q 0 ≡ column (M.table meta.old) q 0 }
+    ensures extents { (at : ℕ) (q : Key) (stamp block : ℕ) →
+        (column (M.table meta.new) q at ≡ Some (Extent stamp block))
+        ↔ (column (M.table meta.old) q at ≡ Some (Extent stamp block)) }
+    // What every reader of a checkpoint that isn't gone sees stays.
+    ensures kept { (at : ℕ) (q : Key) → is_live (M.table meta.old) at ≡ true →
+        seen (M.table meta.new) at q ≡ seen (M.table meta.old) at q }
+    ensures orderly { IsOrderly (M.table meta.new) }
+    // The absents that were needed still are, and so is one that is left here.
+    ensures needed { (at : ℕ) (q : Key) → IsNeeded (M.table meta.old) q at →
+        IsNeeded (M.table meta.new) q at }
+    ensures here { column (M.table meta.new) key.now fs ≡ Some Absent →
+        IsNeeded (M.table meta.new) key.now fs }
 {
     if is_needless(meta, fs, key) {
         meta.del(fs, key);
