@@ -1,7 +1,7 @@
 -- The first fileset that has an entry, and which absents are needed, after a table is changed at one key.
-use Rattle.std.proofs.Common.{◌≡◌, ◌≢◌, ℕ, ◌+◌, ◌<◌, ◌≤◌, Bool, true, false, cond, ◌&&◌, not, ◌⊎◌, inl, inr, List, [], ◌∷◌, ◌++◌, filter, Option, Some, None, is_some, IsSome, IsSomeAnd, nat_lt, nat_eq, if◌then◌else◌, refl, sym, ap, subst, ◌∙◌, arith}
+use Rattle.std.proofs.Common.{◌≡◌, ◌≢◌, ℕ, ◌+◌, ◌<◌, ◌≤◌, Bool, true, false, cond, ◌&&◌, ◌||◌, not, ◌⊎◌, inl, inr, List, [], ◌∷◌, ◌++◌, filter, Option, Some, None, is_some, IsSome, IsSomeAnd, nat_lt, nat_eq, if◌then◌else◌, refl, sym, ap, subst, ◌∙◌, arith}
 use Rattle.std.specs.Option.{option_or, option_map, option_map_or}
-use Rattle.std.specs.List.{AllByRecursion}
+use Rattle.std.specs.List.{AllByRecursion, list_any}
 use Rattle.std.specs.FinMap as map
 use mathlib.Core.Bool.{false≢true}
 use Rattle.std.proofs.lemmas.Bool.{cases_lt}
@@ -10,12 +10,12 @@ use Rattle.ck_model.specs.declared.key.Key.{Key}
 use Rattle.ck_model.specs.declared.held.Held.{Held}
 use Rattle.ck_model.specs.declared.held.Held.TheVariants.{Absent, Plain, Extent, Mark}
 use Rattle.ck_model.specs.Table.{Table, newer, column, with_entry, written}
-use Rattle.ck_model.specs.Chain.{first_entry, present, is_live, is_gone}
+use Rattle.ck_model.specs.Chain.{first_entry, present, is_live, is_gone, newest_live_of}
 use Rattle.ck_model.specs.Rules.{first_holder, IsNeeded, IsOrderly, IsSound}
 use Rattle.ck_chain.specs.Needless.{is_absent, says_nothing, is_needless, tidied}
 use Rattle.ck_chain.proofs.Newer.{newer_split, in_between}
 use Rattle.ck_chain.proofs.Columns.{column-with_entry, column-with_entry_other, same_or_other}
-use Rattle.ck_chain.proofs.Laws.{each_above, live_stands}
+use Rattle.ck_chain.proofs.Laws.{each_above, live_stands, newest_at_least}
 use Rattle.ck_chain.proofs.Orderly.{orderly_without}
 
 -- the next newer entry says something, or stands in a checkpoint that is gone
@@ -163,3 +163,61 @@ orderly_tidied t f key is =
       | true ↦ orderly_without t f key is
       | false ↦ is
     ]
+
+-- where no fileset of the list has an entry, the first holder is the primary
+pub none_holder : (c : ℕ → Option Held) (ids : List ℕ) → list_any (λ id. is_some (c id)) ids ≡ false → first_holder c ids ≡ option_map (λ entry. (0, entry)) (c 0)
+none_holder c [] h = refl
+none_holder c (x ∷ ids) h =
+    elim (c x) as (λ o. (is_some o || list_any (λ id. is_some (c id)) ids) ≡ false → option_or (option_map (λ entry. (x, entry)) o) (first_holder c ids) ≡ option_map (λ entry. (0, entry)) (c 0)) [
+      | None ↦ λ h. none_holder c ids h
+      | Some held ↦ λ h. cc
+    ] h
+
+-- where one has, the primary doesn't matter
+pub some_holder : (c d : ℕ → Option Held) (ids : List ℕ) → list_any (λ id. is_some (c id)) ids ≡ true → AllByRecursion (λ x. d x ≡ c x) ids → first_holder d ids ≡ first_holder c ids
+some_holder c d [] h same = cc
+some_holder c d (x ∷ ids) h same =
+    ap (λ o. option_or (option_map (λ entry. (x, entry)) o) (first_holder d ids)) same.0
+    ∙ elim (c x) as (λ o. (is_some o || list_any (λ id. is_some (c id)) ids) ≡ true → option_or (option_map (λ entry. (x, entry)) o) (first_holder d ids) ≡ option_or (option_map (λ entry. (x, entry)) o) (first_holder c ids)) [
+      | None ↦ λ h. some_holder c d ids h same.1
+      | Some held ↦ λ h. refl
+    ] h
+
+-- the first of the filesets above a number that has an entry
+pub record FirstAbove (c : ℕ → Option Held) (fs : ℕ) (holder : Option (ℕ × Held)) : Type 0 where
+  pub at : ℕ
+  pub held : Held
+  pub more : fs < at
+  pub has : c at ≡ Some held
+  pub is : holder ≡ Some (at, held)
+
+pub holder_above : (c : ℕ → Option Held) (fs : ℕ) (ids : List ℕ) → list_any (λ id. is_some (c id)) (filter (λ id. nat_lt fs id) ids) ≡ true → FirstAbove c fs (first_holder c (filter (λ id. nat_lt fs id) ids))
+holder_above c fs [] h = absurd (false≢true h)
+holder_above c fs (x ∷ ids) h =
+    elim (nat_lt fs x) as (λ b. nat_lt fs x ≡ b → list_any (λ id. is_some (c id)) (cond b (x ∷ filter (λ id. nat_lt fs id) ids) (filter (λ id. nat_lt fs id) ids)) ≡ true → FirstAbove c fs (first_holder c (cond b (x ∷ filter (λ id. nat_lt fs id) ids) (filter (λ id. nat_lt fs id) ids)))) [
+      | true ↦ λ above some.
+          let more : fs < x = grind (arith, nat_tests) in
+          elim (c x) as (λ o. c x ≡ o → (is_some o || list_any (λ id. is_some (c id)) (filter (λ id. nat_lt fs id) ids)) ≡ true → FirstAbove c fs (option_or (option_map (λ entry. (x, entry)) o) (first_holder c (filter (λ id. nat_lt fs id) ids)))) [
+            | Some held ↦ λ has some. record { at = x; held = held; more = more; has = has; is = refl }
+            | None ↦ λ has some. holder_above c fs ids some
+          ] refl some
+      | false ↦ λ above some. holder_above c fs ids some
+    ] refl h
+
+-- a checkpoint of the table that isn't live is gone
+pub dead_gone : (t : Table) (fs : ℕ) → IsSome (map.get t.filesets fs) → is_live t fs ≡ false → is_gone t fs ≡ true
+dead_gone t fs stands dead = elim (map.get t.filesets fs) as (λ o. IsSome o → option_map_or (λ fileset. not fileset.gone) o false ≡ false → option_map_or (λ fileset. fileset.gone) o false ≡ true) [
+  | None ↦ λ s d. s
+  | Some fileset ↦ λ s d. not_gone fileset.gone d
+] stands dead
+
+-- a checkpoint newer than the newest one that isn't gone is gone, if it has an entry
+pub gone_above : (t : Table) (n fs : ℕ) (key : Key) → IsOrderly t → newest_live_of t ≡ Some n → 0 < n → n < fs → IsSome (column t key fs) → is_gone t fs ≡ true
+gone_above t n fs key is newest above more some = elim (is.homes fs key some) [
+  | inl zero ↦ absurd (omega arith)
+  | inr stands ↦
+      elim (is_live t fs) as (λ b. is_live t fs ≡ b → is_gone t fs ≡ true) [
+        | true ↦ λ live. let least = subst (λ o. IsSomeAnd o (λ m. fs ≤ m)) newest (newest_at_least t fs (omega arith) live) in absurd (omega arith)
+        | false ↦ λ dead. dead_gone t fs stands dead
+      ] refl
+]

@@ -5,3 +5,4 @@ pub mod Counts
 pub mod Orderly
 pub mod Holders
 pub mod TidyLaws
+pub mod Moved
