@@ -1,13 +1,7 @@
-// A library with one function.
+//! Changes of the primary, which push what it held into the newest checkpoint, and what they take.
 #![tactic(auto)]
 
-ghost use Rattle.std.specs.Prelude.{◌≡◌};
-ghost use Rattle.ck_push.specs.Echo.{echo_of};
 
-// The `ensures` clause is the contract: what `echo` returns is `echo_of` of its argument, a definition
-// in `specs/Echo.antt`, which a caller's clause can cite too.
-pub fn echo(x: usize) -> usize
-    ensures { result ≡ echo_of x }
-{
-    x
-}
+mod pushing;
+
+
