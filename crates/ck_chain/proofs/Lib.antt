@@ -6,3 +6,4 @@ pub mod Orderly
 pub mod Holders
 pub mod TidyLaws
 pub mod Moved
+pub mod Names
