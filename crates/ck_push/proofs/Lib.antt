@@ -1,2 +1,4 @@
 pub mod Replacing
 pub mod PushLaws
+pub mod ReleaseLaws
+pub mod SeenLaws
