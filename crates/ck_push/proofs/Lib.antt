@@ -2,3 +2,5 @@ pub mod Replacing
 pub mod PushLaws
 pub mod ReleaseLaws
 pub mod SeenLaws
+pub mod NeedLaws
+pub mod CountLaws
