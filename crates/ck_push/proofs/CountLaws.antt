@@ -141,7 +141,7 @@ needless_deleted t n key is newest above there = go (is_covered t n key) refl
     go false h = needless_bare t n key is above there h
 
 -- and never after another change
-needless_set : (t : Table) (n : ℕ) (key : Key) (new : Held) → IsOrderly t → newest_live_of t ≡ Some n → 0 < n → IsOwn new → is_needless (after t n key (Some new)) n key ≡ false
+pub needless_set : (t : Table) (n : ℕ) (key : Key) (new : Held) → IsOrderly t → newest_live_of t ≡ Some n → 0 < n → IsOwn new → is_needless (after t n key (Some new)) n key ≡ false
 needless_set t n key new is newest above own = go (list_any (λ id. is_some (column t key id)) (newer t n)) refl
   where
     go : (some : Bool) → list_any (λ id. is_some (column t key id)) (newer t n) ≡ some → is_needless (after t n key (Some new)) n key ≡ false
@@ -151,7 +151,7 @@ needless_set t n key new is newest above own = go (list_any (λ id. is_some (col
         ∙ and_false (is_absent (column (after t n key (Some new)) key n)) _ (not_said (is_absent (Some new)) (own_no_absent new own) _)
 
 -- a fact for each newest checkpoint that there may be
-each_newest : (t : Table) (P : Option ℕ → Type 0) → IsTable t → P None → ((n : ℕ) → newest_live_of t ≡ Some n → 0 < n → P (Some n)) → P (newest_live_of t)
+pub each_newest : (t : Table) (P : Option ℕ → Type 0) → IsTable t → P None → ((n : ℕ) → newest_live_of t ≡ Some n → 0 < n → P (Some n)) → P (newest_live_of t)
 each_newest t P lawful none some =
     elim (newest_live_of t) as (λ o. newest_live_of t ≡ o → IfSome o (λ n. is_live t n ≡ true) → P o) [
       | None ↦ λ newest passes. none

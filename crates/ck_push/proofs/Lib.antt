@@ -4,3 +4,4 @@ pub mod ReleaseLaws
 pub mod SeenLaws
 pub mod NeedLaws
 pub mod CountLaws
+pub mod ChangeLaws

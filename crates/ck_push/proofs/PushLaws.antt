@@ -48,7 +48,7 @@ push_bare t key entry is = no_entry (column t key entry.0) _ is.bare
 pub push_above : (t : Table) (key : Key) (entry : ℕ × Held) → IsTable t → IsPush t key entry → 0 < entry.0
 push_above t key entry lawful is = let least = positive_id t entry.0 lawful (live_stands t entry.0 is.live) in omega arith
 
-map_some : {X : Type 0} (P Q : X → Type 0) (o : Option X) → ((x : X) → P x → Q x) → IfSome o P → IfSome o Q
+pub map_some : {X : Type 0} (P Q : X → Type 0) (o : Option X) → ((x : X) → P x → Q x) → IfSome o P → IfSome o Q
 map_some P Q None step h = tt
 map_some P Q (Some x) step h = step x h
 

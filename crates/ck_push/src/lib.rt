@@ -1,7 +1,7 @@
 //! Changes of the primary, which push what it held into the newest checkpoint, and what they take.
 #![tactic(auto)]
 
-
+mod changing;
 mod pushing;
 
-
+pub use changing::change;

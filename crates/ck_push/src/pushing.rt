@@ -1,13 +1,15 @@
-ghost use Rattle.std.specs.Prelude.{◌≡◌, ◌≢◌, ◌⊎◌, ◌+◌, ◌≤◌, ◌<◌, IfSome, IsSome, MatchOption, is_some, not, None};
+ghost use Rattle.std.specs.Prelude.{◌≡◌, ◌≢◌, ◌⊎◌, ◌+◌, ◌≤◌, ◌<◌, IfSome, IsSome, MatchOption, is_some, not, true, None};
 ghost use Rattle.ck_model.specs.Held.{IsEntry};
 ghost use Rattle.ck_model.specs.Table.{column, spare_count};
+ghost use Rattle.ck_model.specs.Chain.{is_live};
+ghost use Rattle.ck_model.specs.Rules.{IsOrderly};
 ghost use Rattle.ck_chain.specs.Kept.{pushed};
 ghost use Rattle.ck_chain.specs.Naming.{block_of};
-ghost use Rattle.ck_push.specs.Changed.{key_of, push_into, replaced, value_after, with_push};
+ghost use Rattle.ck_push.specs.Changed.{key_of, push_into, replaced, tidied_in, value_after, with_push};
 ghost use Rattle.ck_push.specs.Growth.{one_if};
 ghost use Rattle.ck_push.specs.Released.{released};
 
-use ck_chain::{is_covered, keeps};
+use ck_chain::{is_covered, keeps, tidy};
 use ck_model::{Change, Freed, Held, Key, Meta};
 
 pub fn key_of(item: &Change) -> Key
@@ -112,5 +114,16 @@ pub fn replace<M: Meta>(
             meta.del(0, key);
             push(meta, key, entry);
         }
+    }
+}
+
+/// Tidies the newest checkpoint at the key.
+pub fn tidy_newest<M: Meta>(meta: &mut M, key: &Key, newest: Option<u32>)
+    requires live { IfSome newest (λ fs. is_live (M.table meta.old) fs ≡ true) }
+    requires orderly { IsOrderly (M.table meta.old) }
+    ensures { M.table meta.new ≡ tidied_in (M.table meta.old) key.now newest }
+{
+    if let Some(fs) = newest {
+        tidy(meta, fs, key);
     }
 }
