@@ -2,6 +2,8 @@
 #![tactic(auto)]
 
 mod changing;
+mod costing;
 mod pushing;
 
 pub use changing::change;
+pub use costing::cost;
