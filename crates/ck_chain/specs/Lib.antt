@@ -1,3 +1,4 @@
 pub mod Needless
 pub mod Kept
 pub mod Naming
+pub mod Changes

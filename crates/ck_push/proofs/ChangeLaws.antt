@@ -19,7 +19,8 @@ use Rattle.ck_chain.proofs.Laws.{last_passes}
 use Rattle.ck_chain.proofs.Orderly.{some_is, positive_id}
 use Rattle.ck_chain.proofs.Columns.{column-with_entry}
 use Rattle.ck_chain.proofs.TidyLaws.{column-tidied}
-use Rattle.ck_push.specs.Changed.{key_of, is_deletion, value_after, push_into, push_of, replaced, tidied_in, changed}
+use Rattle.ck_chain.specs.Changes.{key_of, is_deletion, value_after}
+use Rattle.ck_push.specs.Changed.{push_into, push_of, replaced, tidied_in, changed}
 use Rattle.ck_push.specs.Growth.{one_if, growth}
 use Rattle.ck_push.proofs.PushLaws.{MaySet, IsPush, push_facts, push_above, push_bare, map_some}
 use Rattle.ck_push.proofs.SeenLaws.{after, column-after}

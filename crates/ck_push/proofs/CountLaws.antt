@@ -21,7 +21,8 @@ use Rattle.ck_chain.proofs.Counts.{one_of, record_count-with_entry}
 use Rattle.ck_chain.proofs.Orderly.{positive_id}
 use Rattle.ck_chain.proofs.Holders.{FirstAbove, holder_above, none_holder, some_holder, gone_above}
 use Rattle.ck_chain.proofs.TidyLaws.{tidied_count}
-use Rattle.ck_push.specs.Changed.{key_of, value_after, with_push, push_into, push_of, replaced, tidied_in, changed}
+use Rattle.ck_chain.specs.Changes.{key_of, value_after}
+use Rattle.ck_push.specs.Changed.{with_push, push_into, push_of, replaced, tidied_in, changed}
 use Rattle.ck_push.specs.Growth.{one_if, absent_goes, gain, loss}
 use Rattle.ck_push.proofs.Replacing.{after_push, primary_stays}
 use Rattle.ck_push.proofs.PushLaws.{IsPush, push_facts, push_bare, push_apart}

@@ -5,3 +5,4 @@ pub mod SeenLaws
 pub mod NeedLaws
 pub mod CountLaws
 pub mod ChangeLaws
+pub mod RoomLaws

@@ -1,36 +1,11 @@
 -- The table after a change of the primary.
 use Rattle.std.specs.Prelude.{ℕ, Bool, true, false, Option, Some, None, if◌then◌else◌}
 use Rattle.ck_model.specs.declared.key.Key.{Key}
-use Rattle.ck_model.specs.declared.key.Key.TheVariants.{Block}
 use Rattle.ck_model.specs.declared.held.Held.{Held}
-use Rattle.ck_model.specs.declared.held.Held.TheVariants.{Plain, Extent}
-use Rattle.ck_model.specs.declared.change.Change.{Change}
-use Rattle.ck_model.specs.declared.change.Change.TheVariants.{Put, Write, Del}
 use Rattle.ck_model.specs.Table.{Table, Entries, column, written}
 use Rattle.ck_model.specs.Chain.{is_covered, keeps_data, newest_live_of}
 use Rattle.ck_chain.specs.Kept.{pushed}
 use Rattle.ck_chain.specs.Needless.{tidied}
-
-abbrev pub key_of : Change → Key
-key_of (Put key small) = key
-key_of (Write number index block) = Block number index
-key_of (Del key) = key
-
-abbrev pub is_deletion : Change → Bool
-is_deletion (Put key small) = false
-is_deletion (Write number index block) = false
-is_deletion (Del key) = true
-
-abbrev pub is_write : Change → Bool
-is_write (Put key small) = false
-is_write (Write number index block) = true
-is_write (Del key) = false
-
--- what the primary holds at the key afterwards
-abbrev pub value_after : Change → ℕ → Option Held
-value_after (Put key small) stamp = Some (Plain stamp small)
-value_after (Write number index block) stamp = Some (Extent stamp block)
-value_after (Del key) stamp = None
 
 -- the primary's entry goes into this checkpoint, unless it or a newer one, also one that is gone, has an entry
 abbrev pub push_into : Table → Key → Option ℕ → Option (ℕ × Held)

@@ -6,7 +6,8 @@ use Rattle.ck_model.specs.declared.change.Change.{Change}
 use Rattle.ck_model.specs.Table.{Table, column, newer}
 use Rattle.ck_model.specs.Chain.{newest_live_of}
 use Rattle.ck_chain.specs.Needless.{is_absent}
-use Rattle.ck_push.specs.Changed.{key_of, is_deletion, is_write, push_of}
+use Rattle.ck_chain.specs.Changes.{key_of, is_deletion, is_write}
+use Rattle.ck_push.specs.Changed.{push_of}
 
 -- 1 where it holds
 abbrev pub one_if : Bool → ℕ

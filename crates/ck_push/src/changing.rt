@@ -7,7 +7,8 @@ ghost use Rattle.ck_model.specs.Table.{column, record_count, spare_count};
 ghost use Rattle.ck_model.specs.Chain.{is_live, seen};
 ghost use Rattle.ck_model.specs.Rules.{HeldBelow, IsSound, KeyBelow, stamp_in};
 ghost use Rattle.ck_chain.specs.Naming.{block_of, IsNamed};
-ghost use Rattle.ck_push.specs.Changed.{changed, is_deletion, key_of, push_of, value_after};
+ghost use Rattle.ck_chain.specs.Changes.{is_deletion, key_of, value_after};
+ghost use Rattle.ck_push.specs.Changed.{changed, push_of};
 ghost use Rattle.ck_push.specs.Growth.{gain, growth, loss};
 ghost use Rattle.ck_push.specs.Released.{IsFreed};
 

@@ -2,7 +2,8 @@ ghost use Rattle.std.specs.Prelude.{◌≡◌, ◌-◌, ◌≤◌, ◌<◌, ◌^
 ghost use Rattle.std.specs.List.{list_any};
 ghost use Rattle.ck_model.specs.Table.{column, newer};
 ghost use Rattle.ck_model.specs.Chain.{newest_live_of};
-ghost use Rattle.ck_push.specs.Changed.{is_deletion, is_write, key_of, push_into};
+ghost use Rattle.ck_chain.specs.Changes.{is_deletion, is_write, key_of};
+ghost use Rattle.ck_push.specs.Changed.{push_into};
 ghost use Rattle.ck_push.specs.Growth.{absent_goes, gain, gains, loss, losses, one_if, write_count};
 
 use crate::pushing::key_of;

@@ -5,7 +5,8 @@ ghost use Rattle.ck_model.specs.Chain.{is_live};
 ghost use Rattle.ck_model.specs.Rules.{IsOrderly};
 ghost use Rattle.ck_chain.specs.Kept.{pushed};
 ghost use Rattle.ck_chain.specs.Naming.{block_of};
-ghost use Rattle.ck_push.specs.Changed.{key_of, push_into, replaced, tidied_in, value_after, with_push};
+ghost use Rattle.ck_chain.specs.Changes.{key_of, value_after};
+ghost use Rattle.ck_push.specs.Changed.{push_into, replaced, tidied_in, with_push};
 ghost use Rattle.ck_push.specs.Growth.{one_if};
 ghost use Rattle.ck_push.specs.Released.{released};
 

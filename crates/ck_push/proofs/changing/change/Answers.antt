@@ -7,7 +7,8 @@ use Rattle.ck_model.specs.Table.{Table, column, record_count, spare_count}
 use Rattle.ck_model.specs.Chain.{is_live, newest_live_of, seen}
 use Rattle.ck_model.specs.Rules.{IsOrderly, IsSound}
 use Rattle.ck_chain.specs.Naming.{block_of, IsNamed}
-use Rattle.ck_push.specs.Changed.{changed, key_of, push_into, push_of, replaced, tidied_in, value_after}
+use Rattle.ck_chain.specs.Changes.{key_of, value_after}
+use Rattle.ck_push.specs.Changed.{changed, push_into, push_of, replaced, tidied_in}
 use Rattle.ck_push.specs.Growth.{gain, loss, one_if}
 use Rattle.ck_push.specs.Released.{IsFreed, released}
 use Rattle.ck_push.proofs.ChangeLaws.{deletes, entry_stays, key_below, key_place, may_set, new_block, newest_live, own_value, push_stays, room_of_growth}
