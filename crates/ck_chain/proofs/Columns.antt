@@ -1,9 +1,9 @@
 -- What a written entry changes: the column of its key at its fileset, and nothing else.
-use Rattle.std.proofs.Common.{◌≡◌, ℕ, ◌<◌, ◌≢◌, Bool, true, false, cond, Option, Some, None, nat_eq, refl, sym, ap, ◌∙◌, ◌⊎◌, inl, inr, ◌∷◌}
+use Rattle.std.proofs.Common.{◌≡◌, ℕ, ◌≢◌, Bool, true, false, cond, Option, Some, None, nat_eq, refl, sym, ap, ◌∙◌, ◌⊎◌, inl, inr}
 use Rattle.std.specs.declared.cmp.Ordering.{Ordering}
 use Rattle.std.specs.declared.cmp.Ordering.TheVariants.{Less, Equal, Greater}
 use Rattle.std.specs.Ordering.{nat_cmp, is_eq, ordering_then, eq_by_cmp}
-use Rattle.std.specs.Cmp.{unsigned_tied, Equal-is}
+use Rattle.std.specs.Cmp.{unsigned_tied}
 use Rattle.std.proofs.lemmas.Cmp.{tied_itself}
 use Rattle.std.specs.FinMap.{get-insert, get-remove, same_map}
 use Rattle.std.specs.FinMap as map
@@ -85,5 +85,5 @@ write_swap t f g key v w apart = same_table t (with_entry (with_entry t f key v)
     get-with_entry (with_entry t f key v) g key w q
     ∙ ap (cond (eq_by_cmp entry_cmp q (g, key)) w) (get-with_entry t f key v q)
     ∙ either_order (eq_by_cmp entry_cmp q (f, key)) (eq_by_cmp entry_cmp q (g, key)) v w (map.get t.entries q)
-        (λ here there. apart (ap (λ (e : ℕ × Key). e.0) (sym (entry_cmp_exact q (f, key) (is_equal _ here)) ∙ entry_cmp_exact q (g, key) (is_equal _ there))))
+    (λ here there. apart (ap (λ (e : ℕ × Key). e.0) (sym (entry_cmp_exact q (f, key) (is_equal _ here)) ∙ entry_cmp_exact q (g, key) (is_equal _ there))))
     ∙ sym (get-with_entry (with_entry t g key w) f key v q ∙ ap (cond (eq_by_cmp entry_cmp q (f, key)) v) (get-with_entry t g key w q)))

@@ -1,5 +1,5 @@
 -- The first fileset that has an entry, and which absents are needed, after a table is changed at one key.
-use Rattle.std.proofs.Common.{◌≡◌, ◌≢◌, ℕ, ◌+◌, ◌<◌, ◌≤◌, Bool, true, false, cond, ◌&&◌, ◌||◌, not, ◌⊎◌, inl, inr, List, [], ◌∷◌, ◌++◌, filter, Option, Some, None, is_some, IsSome, IsSomeAnd, nat_lt, nat_eq, if◌then◌else◌, refl, sym, ap, subst, ◌∙◌, arith}
+use Rattle.std.proofs.Common.{◌≡◌, ◌≢◌, ℕ, ◌<◌, ◌≤◌, Bool, true, false, cond, ◌&&◌, ◌||◌, not, ◌⊎◌, inl, inr, List, [], ◌∷◌, ◌++◌, filter, Option, Some, None, is_some, IsSome, IsSomeAnd, nat_lt, if◌then◌else◌, refl, sym, ap, subst, ◌∙◌, arith}
 use Rattle.std.specs.Option.{option_or, option_map, option_map_or}
 use Rattle.std.specs.List.{AllByRecursion, list_any}
 use Rattle.std.specs.FinMap as map
@@ -11,7 +11,7 @@ use Rattle.ck_model.specs.declared.held.Held.{Held}
 use Rattle.ck_model.specs.declared.held.Held.TheVariants.{Absent, Plain, Extent, Mark}
 use Rattle.ck_model.specs.Table.{Table, newer, column, with_entry, written}
 use Rattle.ck_model.specs.Chain.{first_entry, present, is_live, is_gone, newest_live_of}
-use Rattle.ck_model.specs.Rules.{first_holder, IsNeeded, IsOrderly, IsSound}
+use Rattle.ck_model.specs.Rules.{first_holder, IsNeeded, IsOrderly}
 use Rattle.ck_chain.specs.Needless.{is_absent, says_nothing, is_needless, tidied}
 use Rattle.ck_chain.proofs.Newer.{newer_split, in_between}
 use Rattle.ck_chain.proofs.Columns.{column-with_entry, column-with_entry_other, same_or_other}
@@ -102,7 +102,7 @@ before_holder P c d fs f (x ∷ ids) rest same tail h =
           let high : x < f = grind (arith, nat_tests) in
           let here = same x low high in
           subst (λ o. P (option_or (option_map (λ entry. (x, entry)) o) (first_holder d (filter (in_between fs f) ids ++ rest)))) (sym here) (
-            elim (c x) as (λ o. P (option_or (option_map (λ entry. (x, entry)) o) (first_holder c (filter (in_between fs f) ids ++ rest))) → P (option_or (option_map (λ entry. (x, entry)) o) (first_holder d (filter (in_between fs f) ids ++ rest)))) [ None ↦ ih | Some held ↦ λ p. p ] was)
+          elim (c x) as (λ o. P (option_or (option_map (λ entry. (x, entry)) o) (first_holder c (filter (in_between fs f) ids ++ rest))) → P (option_or (option_map (λ entry. (x, entry)) o) (first_holder d (filter (in_between fs f) ids ++ rest)))) [ None ↦ ih | Some held ↦ λ p. p ] was)
       | false ↦ λ is was. ih was
     ] refl h
 
@@ -114,7 +114,7 @@ pub says_still : (t : Table) (d : ℕ → Option Held) (key : Key) (fs f : ℕ) 
 says_still t d key fs f lt stands same tail says =
     let split = newer_split t fs f lt stands in
     subst (λ ids. Says t (first_holder d ids)) (sym split) (
-      before_holder (Says t) (column t key) d fs f (map.keys t.filesets) (f ∷ newer t f) same tail (subst (λ ids. Says t (first_holder (column t key) ids)) split says))
+    before_holder (Says t) (column t key) d fs f (map.keys t.filesets) (f ∷ newer t f) same tail (subst (λ ids. Says t (first_holder (column t key) ids)) split says))
 
 live_not_gone : (t : Table) (f : ℕ) → is_live t f ≡ true → is_gone t f ≡ true → ⊥
 live_not_gone t f live gone = elim (map.get t.filesets f) as (λ o. option_map_or (λ fileset. not fileset.gone) o false ≡ true → option_map_or (λ fileset. fileset.gone) o false ≡ true → ⊥) [
@@ -134,7 +134,7 @@ needed_without t f key positive live at fs q needed = elim (same_or_other q key)
       let at_key : IsNeeded (with_entry t f key None) key fs = elim (cases_lt fs f) [
         | inl lt ↦ says_still t d key fs f lt (live_stands t f live) (λ x low high. agrees x (omega arith))
             (λ says. let wrong = subst (λ o. Says t (option_or (option_map (λ entry. (f, entry)) o) (first_holder (column t key) (newer t f)))) at says in
-              elim wrong [ inl gone ↦ absurd (live_not_gone t f live gone) | inr differs ↦ absurd (differs refl) ]) was
+            elim wrong [ inl gone ↦ absurd (live_not_gone t f live gone) | inr differs ↦ absurd (differs refl) ]) was
         | inr le ↦ subst (Says t) (sym (same_holder (column t key) d (newer t fs) (agrees 0 (omega arith)) (each_above (λ x. d x ≡ column t key x) fs (map.keys t.filesets) (λ x more. agrees x (omega arith))))) was
       ] in
       subst (λ k. IsNeeded (with_entry t f key None) k fs) (sym same) at_key

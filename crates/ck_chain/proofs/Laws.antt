@@ -1,5 +1,5 @@
 -- What a checkpoint's reader sees, after a table is changed at one key.
-use Rattle.std.proofs.Common.{◌≡◌, ℕ, ◌+◌, ◌-◌, ◌<◌, ◌≤◌, ◌≢◌, Bool, true, false, cond, ◌&&◌, ◌||◌, not, T, List, [], ◌∷◌, ◌++◌, map, filter, Option, Some, None, is_some, IsSome, IfSome, IsSomeAnd, nat_lt, nat_le, nat_eq, if◌then◌else◌, refl, sym, ap, subst, ◌∙◌, ◌⊎◌, inl, inr, arith, rules}
+use Rattle.std.proofs.Common.{◌≡◌, ℕ, ◌<◌, ◌≤◌, ◌≢◌, Bool, true, false, cond, ◌||◌, not, List, [], ◌∷◌, ◌++◌, filter, Option, Some, None, is_some, IsSome, IfSome, IsSomeAnd, nat_lt, if◌then◌else◌, refl, sym, ap, subst, ◌∙◌, ◌⊎◌, inl, inr, arith}
 use Rattle.std.specs.Option.{option_or, option_map, option_map_or}
 use Rattle.std.specs.List.{list_any, AllByRecursion}
 use mathlib.Core.Bool.{false≢true}
@@ -27,7 +27,7 @@ before_rest c d b fs f [] rest same tail = tail
 before_rest c d b fs f (x ∷ ids) rest same tail =
     let ih = before_rest c d b fs f ids rest same tail in
     elim (in_between fs f x) as (λ v. in_between fs f x ≡ v → read_as b (first_entry d (cond v (x ∷ filter (in_between fs f) ids) (filter (in_between fs f) ids) ++ rest)) ≡ read_as b (first_entry c (cond v (x ∷ filter (in_between fs f) ids) (filter (in_between fs f) ids) ++ rest))) [
-      | true ↦ λ h. 
+      | true ↦ λ h.
           let low : fs < x = grind (arith, nat_tests) in
           let high : x < f = grind (arith, nat_tests) in
           let here = same x low high in
@@ -136,10 +136,10 @@ pub newest_at_least : (t : Table) (fs : ℕ) → 0 < fs → is_live t fs ≡ tru
 newest_at_least t fs positive live =
     let split = newer_split t 0 fs positive (live_stands t fs live) in
     elim (last_of (is_live t) (newer t fs)) as (λ o. last_of (is_live t) (newer t fs) ≡ o → IfSome o (λ n. fs < n) → IsSomeAnd (newest_live_of t) (λ n. fs ≤ n)) [
-      | Some m ↦ λ e lt. 
+      | Some m ↦ λ e lt.
           let last = ap (last_of (is_live t)) split ∙ last-append (is_live t) (filter (in_between 0 fs) (map.keys t.filesets)) (fs ∷ newer t fs) m (ap (λ o. option_or o (if is_live t fs then Some fs else None)) e) in
           subst (λ o. IsSomeAnd o (λ n. fs ≤ n)) (sym last) (omega arith)
-      | None ↦ λ e lt. 
+      | None ↦ λ e lt.
           let last = ap (last_of (is_live t)) split ∙ last-append (is_live t) (filter (in_between 0 fs) (map.keys t.filesets)) (fs ∷ newer t fs) fs (ap (λ o. option_or o (if is_live t fs then Some fs else None)) e ∙ ap (λ (b : Bool). if b then Some fs else None) live) in
           subst (λ o. IsSomeAnd o (λ n. fs ≤ n)) (sym last) (omega arith)
     ] refl (last_above (is_live t) fs (map.keys t.filesets))
@@ -160,7 +160,7 @@ entry_reads t f key w above stands reads fs q positive = elim (same_or_other q k
         | inl newer_one ↦
             let agrees : (x : ℕ) → x ≢ f → column (with_entry t f key w) key x ≡ column t key x = λ x apart. column-with_entry t f key w x ∙ grind (arith, nat_tests) in
             ap (read_as (keeps_data t fs)) (same_first (column t key) (column (with_entry t f key w) key) (fs ∷ newer t fs) (agrees 0 (omega arith))
-              (agrees fs (omega arith), each_above (λ x. column (with_entry t f key w) key x ≡ column t key x) fs (map.keys t.filesets) (λ x more. agrees x (omega arith))))
+            (agrees fs (omega arith), each_above (λ x. column (with_entry t f key w) key x ≡ column t key x) fs (map.keys t.filesets) (λ x more. agrees x (omega arith))))
         | inr le ↦ older_reads t (column (with_entry t f key w) key) key (keeps_data t fs) fs f positive le stands
             (λ x low high. column-with_entry t f key w x ∙ grind (arith, nat_tests)) (reads (keeps_data t fs) (keeps_newer t fs f le))
       ] in
@@ -174,7 +174,7 @@ tidy_reads t f key above stands own same = entry_reads t f key None above stands
     let d = column (with_entry t f key None) key in
     let here : d f ≡ None = column-with_entry t f key None f ∙ grind (arith, nat_tests) in
     let rest = same_first (column t key) d (newer t f) (column-with_entry t f key None 0 ∙ grind (arith, nat_tests))
-      (each_above (λ x. d x ≡ column t key x) f (map.keys t.filesets) (λ x more. column-with_entry t f key None x ∙ grind (arith, nat_tests))) in
+    (each_above (λ x. d x ≡ column t key x) f (map.keys t.filesets) (λ x more. column-with_entry t f key None x ∙ grind (arith, nat_tests))) in
     ap (λ o. read_as b (option_or o (first_entry d (newer t f)))) here
     ∙ ap (read_as b) rest
     ∙ ap (λ (o : Option Held). if b then o else option_map as_mark o) (sym same)
@@ -208,6 +208,5 @@ moved_reads t n g key h above stands next none own = entry_reads t n key (Some (
     ap (λ o. read_as b (option_or o (first_entry d (newer t n)))) here
     ∙ pushed_reads b (keeps_data t n) (Some h) keeps
     ∙ sym (ap (λ o. read_as b (option_or o (first_entry (column t key) (newer t n)))) none
-        ∙ ap (λ ids. read_as b (first_entry (column t key) ids)) next
-        ∙ ap (λ o. read_as b (option_or o (first_entry (column t key) (newer t g)))) own))
-
+    ∙ ap (λ ids. read_as b (first_entry (column t key) ids)) next
+    ∙ ap (λ o. read_as b (option_or o (first_entry (column t key) (newer t g)))) own))

@@ -1,14 +1,13 @@
 -- The rules of a table, as a checkpoint takes over an entry that a newer fileset gives up.
-use Rattle.std.proofs.Common.{◌≡◌, ◌≢◌, ℕ, ◌<◌, Bool, true, false, cond, inl, inr, Option, Some, None, IsSome, IfSome, nat_eq, if◌then◌else◌, refl, sym, ap, subst, ◌∙◌, arith}
+use Rattle.std.proofs.Common.{◌≡◌, ℕ, ◌<◌, Bool, true, false, inr, Option, Some, None, IsSome, IfSome, refl, sym, ap, subst, ◌∙◌, arith}
 use Rattle.std.specs.FinMap as map
 use Rattle.std.proofs.lemmas.Bool.Decides.{nat_tests}
 use Rattle.ck_model.specs.declared.key.Key.{Key}
 use Rattle.ck_model.specs.declared.key.Key.TheVariants.{Name, Node, Block}
 use Rattle.ck_model.specs.declared.held.Held.{Held}
 use Rattle.ck_model.specs.declared.held.Held.TheVariants.{Absent, Plain, Extent, Mark}
-use Rattle.ck_model.specs.declared.held.Small.TheVariants.{To, File, Dir}
 use Rattle.ck_model.specs.Table.{Table, column, with_entry}
-use Rattle.ck_model.specs.Held.{IsEntry, BelongsTo, IsKey}
+use Rattle.ck_model.specs.Held.{IsEntry, BelongsTo}
 use Rattle.ck_model.specs.Chain.{keeps_data, as_mark}
 use Rattle.ck_model.specs.Rules.{IsOrderly, KeyBelow, HeldBelow, stamp_in, block_in}
 use Rattle.ck_chain.specs.Kept.{pushed}

@@ -1,9 +1,8 @@
 -- Which data blocks a table names, after an entry is written or goes.
-use Rattle.std.proofs.Common.{◌≡◌, ℕ, ◌<◌, Bool, true, false, cond, ◌⊎◌, inl, inr, Option, Some, None, option_and_then, nat_eq, refl, sym, ap, subst, ◌∙◌, arith}
+use Rattle.std.proofs.Common.{◌≡◌, ℕ, true, false, cond, ◌⊎◌, inl, inr, Option, Some, None, nat_eq, refl, sym, ap, ◌∙◌, arith}
 use Rattle.std.proofs.lemmas.Bool.Decides.{nat_tests}
 use Rattle.ck_model.specs.declared.key.Key.{Key}
 use Rattle.ck_model.specs.declared.held.Held.{Held}
-use Rattle.ck_model.specs.declared.held.Held.TheVariants.{Absent}
 use Rattle.ck_model.specs.Table.{Table, column, with_entry}
 use Rattle.ck_model.specs.Rules.{IsOrderly, block_in}
 use Rattle.ck_chain.specs.Naming.{block_of, IsNamed}

@@ -1,15 +1,12 @@
 -- The rules of a table, after an entry is written or goes.
-use Rattle.std.proofs.Common.{◌≡◌, ◌≢◌, ℕ, ◌<◌, ◌≤◌, Bool, true, false, cond, ◌⊎◌, inl, inr, Option, Some, None, is_some, IsSome, IfSome, nat_eq, refl, sym, ap, subst, ◌∙◌, arith}
-use Rattle.std.specs.Ordering.{eq_by_cmp}
+use Rattle.std.proofs.Common.{◌≡◌, ℕ, ◌<◌, ◌≤◌, true, false, cond, ◌⊎◌, inl, inr, Option, Some, None, is_some, IsSome, IfSome, nat_eq, refl, sym, ap, subst, ◌∙◌, arith}
 use Rattle.std.specs.FinMap as map
 use mathlib.Core.Bool.{false≢true}
 use Rattle.std.proofs.lemmas.Bool.Decides.{nat_tests}
 use Rattle.ck_model.specs.declared.key.Key.{Key}
 use Rattle.ck_model.specs.declared.held.Held.{Held}
 use Rattle.ck_model.specs.declared.held.Held.TheVariants.{Mark}
-use Rattle.ck_model.specs.Key.{key_cmp}
 use Rattle.ck_model.specs.Table.{Table, IsTable, column, with_entry}
-use Rattle.ck_model.specs.Held.{IsFileset}
 use Rattle.ck_model.specs.Chain.{keeps_data}
 use Rattle.ck_model.specs.Rules.{IsOrderly, IsOwn, KeyBelow, HeldBelow, stamp_in, block_in}
 use Rattle.ck_chain.proofs.Columns.{column-with_entry, column-with_entry_other, same_or_other}
@@ -123,8 +120,8 @@ pair_version t f k new is fits fs gs key held again stamp one two of_one of_two 
 pub orderly_with : (t : Table) (f : ℕ) (k : Key) (new : Held) → IsOrderly t → Fits t f k new → IsOrderly (with_entry t f k (Some new))
 orderly_with t f k new is fits =
     let by_key : (P : ℕ → Key → Held → Type 0) → P f k new → ((g : ℕ) (q : Key) (held : Held) → column t q g ≡ Some held → P g q held)
-        → (g : ℕ) (q : Key) (held : Held) → column (with_entry t f k (Some new)) q g ≡ Some held → P g q held
-        = λ P here there g q held at. each_entry t f k new P here there g q held at in
+    → (g : ℕ) (q : Key) (held : Held) → column (with_entry t f k (Some new)) q g ≡ Some held → P g q held
+    = λ P here there g q held at. each_entry t f k new P here there g q held at in
     record {
       names = is.names;
       ids = is.ids;

@@ -1,5 +1,5 @@
 -- What tidying a checkpoint at a key leaves as it was.
-use Rattle.std.proofs.Common.{◌≡◌, ◌≢◌, ◌↔◌, ℕ, ◌+◌, ◌<◌, ◌≤◌, Bool, true, false, cond, ◌⊎◌, inl, inr, Option, Some, None, is_some, IsSome, nat_eq, if◌then◌else◌, refl, sym, ap, subst, ◌∙◌, arith}
+use Rattle.std.proofs.Common.{◌≡◌, ◌↔◌, ℕ, ◌+◌, ◌<◌, ◌≤◌, true, false, cond, ◌⊎◌, inl, inr, Option, Some, None, is_some, IsSome, nat_eq, if◌then◌else◌, refl, sym, ap, ◌∙◌, arith}
 use Rattle.std.specs.FinMap as map
 use Rattle.std.proofs.lemmas.Bool.Decides.{nat_tests}
 use Rattle.ck_model.specs.declared.key.Key.{Key}
@@ -11,7 +11,6 @@ use Rattle.ck_chain.specs.Needless.{is_needless, tidied}
 use Rattle.ck_chain.proofs.Columns.{column-with_entry, column-with_entry_other, same_or_other}
 use Rattle.ck_chain.proofs.Laws.{tidy_reads}
 use Rattle.ck_chain.proofs.Counts.{record_count-with_entry}
-use Rattle.ck_chain.proofs.Orderly.{still_stood}
 use Rattle.ck_chain.proofs.Holders.{needless_absent, needless_same}
 
 -- what every checkpoint's reader sees

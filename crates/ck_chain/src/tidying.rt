@@ -29,8 +29,7 @@ fn says_nothing<M: Meta>(meta: &M, fs: u32, held: Option<Held>) -> bool
 
 // Whether the first of the newer filesets with an entry at the key says nothing.
 fn newer_say_nothing<M: Meta>(meta: &M, fs: u32, key: &Key) -> bool
-    ensures {
-        let t = M.table meta.now in
+    ensures { let t = M.table meta.now in
         result ≡ says_nothing t (first_holder (column t key.now) (newer t fs)) }
 {
     let mut at = fs;

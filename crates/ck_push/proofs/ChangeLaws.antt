@@ -1,31 +1,30 @@
 -- What the conditions of a change give, and the checkpoints' entries after it.
-use Rattle.std.proofs.Common.{◌≡◌, ◌≢◌, ℕ, ◌+◌, ◌-◌, ◌<◌, ◌≤◌, Bool, true, false, cond, ◌&&◌, not, ◌⊎◌, inl, inr, Option, Some, None, is_some, IsSome, IfSome, MatchOption, nat_eq, if◌then◌else◌, refl, sym, ap, subst, ◌∙◌, arith}
+use Rattle.std.proofs.Common.{◌≡◌, ◌≢◌, ℕ, ◌+◌, ◌<◌, ◌≤◌, Bool, true, false, cond, not, ◌⊎◌, inl, inr, Option, Some, None, is_some, IsSome, IfSome, MatchOption, nat_eq, if◌then◌else◌, refl, sym, ap, subst, ◌∙◌, arith}
 use mathlib.Core.Bool.{false≢true}
 use Rattle.std.proofs.lemmas.Bool.Decides.{nat_tests}
 use Rattle.ck_model.specs.declared.key.Key.{Key}
-use Rattle.ck_model.specs.declared.key.Key.TheVariants.{Block}
 use Rattle.ck_model.specs.declared.held.Held.{Held}
-use Rattle.ck_model.specs.declared.held.Held.TheVariants.{Absent, Plain, Extent, Mark}
+use Rattle.ck_model.specs.declared.held.Held.TheVariants.{Absent}
 use Rattle.ck_model.specs.declared.change.Change.{Change}
 use Rattle.ck_model.specs.declared.change.Change.TheVariants.{Put, Write, Del}
 use Rattle.ck_model.specs.Table.{Table, IsTable, newer, column, with_entry, spare_count, written}
 use Rattle.ck_model.specs.Held.{IsEntry, IsKey}
 use Rattle.ck_model.specs.Chain.{is_covered, is_live, newest_live_of, keeps_data}
-use Rattle.ck_model.specs.Rules.{IsOrderly, IsOwn, KeyBelow, HeldBelow, stamp_in, block_in}
+use Rattle.ck_model.specs.Rules.{IsOrderly, IsOwn, KeyBelow, HeldBelow, stamp_in}
 use Rattle.ck_chain.specs.Kept.{pushed}
 use Rattle.ck_chain.specs.Naming.{block_of, IsNamed}
-use Rattle.ck_chain.specs.Needless.{is_needless, tidied}
+use Rattle.ck_chain.specs.Needless.{tidied}
 use Rattle.ck_chain.proofs.Laws.{last_passes}
-use Rattle.ck_chain.proofs.Orderly.{some_is, positive_id}
+use Rattle.ck_chain.proofs.Orderly.{some_is}
 use Rattle.ck_chain.proofs.Columns.{column-with_entry}
 use Rattle.ck_chain.proofs.TidyLaws.{column-tidied}
 use Rattle.ck_chain.specs.Changes.{key_of, is_deletion, value_after}
 use Rattle.ck_push.specs.Changed.{push_into, push_of, replaced, tidied_in, changed}
 use Rattle.ck_push.specs.Growth.{one_if, growth}
 use Rattle.ck_push.proofs.PushLaws.{MaySet, IsPush, push_facts, push_above, push_bare, map_some}
-use Rattle.ck_push.proofs.SeenLaws.{after, column-after}
-use Rattle.ck_push.proofs.NeedLaws.{own_pushed, covered_stays, older_stays, pushed_there}
-use Rattle.ck_push.proofs.CountLaws.{each_newest, needless_set}
+use Rattle.ck_push.proofs.SeenLaws.{after}
+use Rattle.ck_push.proofs.NeedLaws.{own_pushed, pushed_there}
+use Rattle.ck_push.proofs.CountLaws.{needless_set}
 
 -- a change that leaves nothing is a deletion
 pub deletes : (change : Change) (stamp : ℕ) → value_after change stamp ≡ None → is_deletion change ≡ true

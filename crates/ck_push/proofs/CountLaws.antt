@@ -1,6 +1,6 @@
 -- How many records the table has after a change.
-use Rattle.std.proofs.Common.{◌≡◌, ◌≢◌, ℕ, ◌+◌, ◌-◌, ◌<◌, ◌≤◌, Bool, true, false, cond, ◌&&◌, ◌||◌, not, ◌⊎◌, inl, inr, List, [], ◌∷◌, Option, Some, None, is_some, IsSome, IfSome, nat_eq, if◌then◌else◌, refl, sym, ap, subst, ◌∙◌, arith}
-use Rattle.std.specs.Option.{option_or, option_map}
+use Rattle.std.proofs.Common.{◌≡◌, ◌≢◌, ℕ, ◌+◌, ◌<◌, Bool, true, false, cond, ◌&&◌, ◌||◌, not, List, [], ◌∷◌, Option, Some, None, is_some, IsSome, IfSome, refl, sym, ap, ◌∙◌, arith}
+use Rattle.std.specs.Option.{option_map}
 use Rattle.std.specs.List.{list_any, AllByRecursion}
 use Rattle.std.specs.FinMap as map
 use mathlib.Core.Bool.{false≢true}
@@ -11,7 +11,7 @@ use Rattle.ck_model.specs.declared.held.Held.{Held}
 use Rattle.ck_model.specs.declared.held.Held.TheVariants.{Absent, Plain, Extent, Mark}
 use Rattle.ck_model.specs.declared.change.Change.{Change}
 use Rattle.ck_model.specs.declared.change.Change.TheVariants.{Put, Write, Del}
-use Rattle.ck_model.specs.Table.{Table, IsTable, newer, column, with_entry, record_count}
+use Rattle.ck_model.specs.Table.{Table, IsTable, newer, column, record_count}
 use Rattle.ck_model.specs.Chain.{is_covered, is_gone, is_live, keeps_data, newest_live_of}
 use Rattle.ck_model.specs.Rules.{IsOrderly, IsOwn, first_holder}
 use Rattle.ck_chain.specs.Kept.{pushed}
@@ -19,10 +19,10 @@ use Rattle.ck_chain.specs.Needless.{is_absent, says_nothing, is_needless, tidied
 use Rattle.ck_chain.proofs.Laws.{each_above, last_passes, live_stands}
 use Rattle.ck_chain.proofs.Counts.{one_of, record_count-with_entry}
 use Rattle.ck_chain.proofs.Orderly.{positive_id}
-use Rattle.ck_chain.proofs.Holders.{FirstAbove, holder_above, none_holder, some_holder, gone_above}
+use Rattle.ck_chain.proofs.Holders.{holder_above, none_holder, some_holder, gone_above}
 use Rattle.ck_chain.proofs.TidyLaws.{tidied_count}
 use Rattle.ck_chain.specs.Changes.{key_of, value_after}
-use Rattle.ck_push.specs.Changed.{with_push, push_into, push_of, replaced, tidied_in, changed}
+use Rattle.ck_push.specs.Changed.{push_into, push_of, replaced, tidied_in, changed}
 use Rattle.ck_push.specs.Growth.{one_if, absent_goes, gain, loss}
 use Rattle.ck_push.proofs.Replacing.{after_push, primary_stays}
 use Rattle.ck_push.proofs.PushLaws.{IsPush, push_facts, push_bare, push_apart}
@@ -42,7 +42,7 @@ count_replaced : (t : Table) (key : Key) (new : Option Held) → IsTable t → r
 count_replaced t key new lawful =
     let same : one_of (column (after_push t key (push_of t key)) key 0) ≡ one_of (column t key 0) = ap one_of (primary_stays t key (push_of t key) (push_apart t key lawful)) in
     let count : record_count (replaced t key (push_of t key) new) + one_of (column (after_push t key (push_of t key)) key 0) ≡ record_count (after_push t key (push_of t key)) + one_of new
-        = record_count-with_entry (after_push t key (push_of t key)) 0 key new in
+    = record_count-with_entry (after_push t key (push_of t key)) 0 key new in
     let pushes = push_counts t key (push_of t key) (push_facts t key) in
     omega arith
 
@@ -126,10 +126,10 @@ needless_bare : (t : Table) (n : ℕ) (key : Key) → IsOrderly t → 0 < n → 
 needless_bare t n key is above there bare =
     let u = after t n key None in
     let pushes : is_absent (column u key n) ≡ false = ap is_absent (pushed_there t n key None above bare) ∙
-        elim (column t key 0) as (λ o. column t key 0 ≡ o → IsSome o → is_absent (Some (pushed (keeps_data t n) o)) ≡ false) [
-          | None ↦ λ at some. absurd (false≢true some)
-          | Some old ↦ λ at some. absent_no (pushed (keeps_data t n) (Some old)) (own_pushed (keeps_data t n) old (is.primary key old at))
-        ] refl there in
+    elim (column t key 0) as (λ o. column t key 0 ≡ o → IsSome o → is_absent (Some (pushed (keeps_data t n) o)) ≡ false) [
+      | None ↦ λ at some. absurd (false≢true some)
+      | Some old ↦ λ at some. absent_no (pushed (keeps_data t n) (Some old)) (own_pushed (keeps_data t n) old (is.primary key old at))
+    ] refl there in
     not_said (is_absent (column u key n)) pushes _
     ∙ sym (not_said (is_absent (column t key n)) (no_entry (column t key n) (or_left (is_some (column t key n)) _ bare)) _)
 
@@ -165,9 +165,9 @@ pub count_deleted : (t : Table) (key : Key) → IsTable t → IsOrderly t → Is
 count_deleted t key lawful is there =
     let u = replaced t key (push_of t key) None in
     let tidies : record_count (changed t key None) + one_if (absent_goes t key (newest_live_of t)) ≡ record_count u =
-        each_newest t (λ o. record_count (tidied_in (replaced t key (push_into t key o) None) key o) + one_if (absent_goes t key o) ≡ record_count (replaced t key (push_into t key o) None)) lawful
-          (omega arith)
-          (λ n newest above. ap (λ b. record_count (tidied (after t n key None) n key) + one_if b) (sym (needless_deleted t n key is newest above there)) ∙ tidied_count (after t n key None) n key) in
+    each_newest t (λ o. record_count (tidied_in (replaced t key (push_into t key o) None) key o) + one_if (absent_goes t key o) ≡ record_count (replaced t key (push_into t key o) None)) lawful
+    (omega arith)
+    (λ n newest above. ap (λ b. record_count (tidied (after t n key None) n key) + one_if b) (sym (needless_deleted t n key is newest above there)) ∙ tidied_count (after t n key None) n key) in
     let one : one_of (column t key 0) ≡ 1 = ap (λ b. cond b 1 0) there in
     let count : record_count u + one_of (column t key 0) ≡ record_count t + one_if (is_some (push_of t key)) + 0 = count_replaced t key None lawful in
     omega arith
@@ -185,9 +185,9 @@ pub count_set : (t : Table) (key : Key) (new : Held) → IsTable t → IsOrderly
 count_set t key new lawful is own =
     let u = replaced t key (push_of t key) (Some new) in
     let tidies : record_count (changed t key (Some new)) ≡ record_count u =
-        each_newest t (λ o. record_count (tidied_in (replaced t key (push_into t key o) (Some new)) key o) ≡ record_count (replaced t key (push_into t key o) (Some new))) lawful
-          refl
-          (λ n newest above. and_none (ap (λ b. record_count (tidied (after t n key (Some new)) n key) + one_if b) (sym (needless_set t n key new is newest above own)) ∙ tidied_count (after t n key (Some new)) n key)) in
+    each_newest t (λ o. record_count (tidied_in (replaced t key (push_into t key o) (Some new)) key o) ≡ record_count (replaced t key (push_into t key o) (Some new))) lawful
+    refl
+    (λ n newest above. and_none (ap (λ b. record_count (tidied (after t n key (Some new)) n key) + one_if b) (sym (needless_set t n key new is newest above own)) ∙ tidied_count (after t n key (Some new)) n key)) in
     let other : one_of (column t key 0) + one_if (not (is_some (column t key 0))) ≡ 1 = not_there (column t key 0) in
     let count : record_count u + one_of (column t key 0) ≡ record_count t + one_if (is_some (push_of t key)) + 1 = count_replaced t key (Some new) lawful in
     omega arith

@@ -1,5 +1,5 @@
 -- All rules hold after a change: each absent that stands then is needed.
-use Rattle.std.proofs.Common.{◌≡◌, ◌≢◌, ℕ, ◌+◌, ◌<◌, ◌≤◌, Bool, true, false, cond, ◌⊎◌, inl, inr, ◌∷◌, Option, Some, None, is_some, IsSome, IfSome, IsSomeAnd, nat_eq, if◌then◌else◌, refl, sym, ap, subst, ◌∙◌, arith}
+use Rattle.std.proofs.Common.{◌≡◌, ◌≢◌, ℕ, ◌<◌, ◌≤◌, Bool, true, false, ◌⊎◌, inl, inr, ◌∷◌, Option, Some, None, IfSome, IsSomeAnd, refl, sym, ap, subst, ◌∙◌, arith}
 use Rattle.std.specs.Option.{option_or, option_map}
 use Rattle.std.specs.FinMap as map
 use Rattle.std.proofs.lemmas.Bool.{cases_lt}
@@ -57,10 +57,10 @@ says_from_newest t n key new is above says = go (is_covered t n key) refl
         let d = column (after t n key new) key in
         let was = subst (Says t) (none_holder (column t key) (n ∷ newer t n) h) says in
         subst (λ o. Says t (option_or (option_map (λ entry. (n, entry)) o) (first_holder d (newer t n)))) (sym (pushed_there t n key new above h)) (
-          elim (column t key 0) as (λ o. column t key 0 ≡ o → Says t (option_map (λ entry. (0, entry)) o) → (is_gone t n ≡ true) ⊎ (pushed (keeps_data t n) o ≢ Absent)) [
-            | None ↦ λ none s. absurd s
-            | Some old ↦ λ at s. inr (own_pushed (keeps_data t n) old (is.primary key old at))
-          ] refl was)
+        elim (column t key 0) as (λ o. column t key 0 ≡ o → Says t (option_map (λ entry. (0, entry)) o) → (is_gone t n ≡ true) ⊎ (pushed (keeps_data t n) o ≢ Absent)) [
+          | None ↦ λ none s. absurd s
+          | Some old ↦ λ at s. inr (own_pushed (keeps_data t n) old (is.primary key old at))
+        ] refl was)
 
 absent_once : (o : Option Held) → o ≡ None → o ≡ Some Absent → ⊥
 absent_once o none some = let wrong : ◌≡◌ {A = Option Held} None (Some Absent) = sym none ∙ some in cc
@@ -72,7 +72,7 @@ needed_older t n key new sound above live fs positive lt lives at =
     let d = column (after t n key new) key in
     let was : column t key fs ≡ Some Absent = sym (older_stays t n key new fs positive (omega arith)) ∙ at in
     says_still t d key fs n lt (live_stands t n live) (λ x low high. older_stays t n key new x (omega arith) (omega arith))
-      (says_from_newest t n key new sound.orderly above) (sound.absents fs key lives was)
+    (says_from_newest t n key new sound.orderly above) (sound.absents fs key lives was)
 
 -- an absent at any other key is
 needed_other : (t : Table) (n : ℕ) (key : Key) (new : Option Held) → IsSound t → (fs : ℕ) (q : Key) → column (after t n key new) q ≡ column t q
@@ -115,7 +115,7 @@ sound_changed t key new lawful sound below may = record {
   absents = λ fs q live at.
       let above : 0 < fs = (let least = positive_id t fs lawful (live_stands t fs live) in omega arith) in
       elim (newest_live_of t) as (λ o. IfSome o (λ n. is_live t n ≡ true) → IsSomeAnd o (λ n. fs ≤ n)
-          → column (tidied_in (replaced t key (push_into t key o) new) key o) q fs ≡ Some Absent → IsNeeded (tidied_in (replaced t key (push_into t key o) new) key o) q fs) [
+      → column (tidied_in (replaced t key (push_into t key o) new) key o) q fs ≡ Some Absent → IsNeeded (tidied_in (replaced t key (push_into t key o) new) key o) q fs) [
         | None ↦ λ passes le h. absurd le
         | Some n ↦ λ passes le h. let positive : 0 < n = omega arith in needed_after t n key new sound positive passes fs q above le live h
       ] (last_passes (is_live t) (newer t 0)) (newest_at_least t fs above live) at;

@@ -1,7 +1,5 @@
 -- What is pushed, and the rules of the table in which the primary's entry is replaced.
-use Rattle.std.proofs.Common.{◌≡◌, ◌≢◌, ℕ, ◌+◌, ◌<◌, ◌≤◌, Bool, true, false, cond, ◌||◌, ◌⊎◌, inl, inr, ◌∷◌, Option, Some, None, is_some, IsSome, IfSome, MatchOption, nat_eq, if◌then◌else◌, refl, sym, ap, subst, ◌∙◌, arith}
-use Rattle.std.specs.List.{list_any}
-use Rattle.std.proofs.lemmas.Bool.Decides.{nat_tests}
+use Rattle.std.proofs.Common.{◌≡◌, ◌≢◌, ℕ, ◌<◌, Bool, true, false, ◌||◌, ◌⊎◌, inl, inr, Option, Some, None, is_some, IfSome, if◌then◌else◌, refl, sym, ap, subst, ◌∙◌, arith}
 use Rattle.ck_model.specs.declared.key.Key.{Key}
 use Rattle.ck_model.specs.declared.held.Held.{Held}
 use Rattle.ck_model.specs.declared.held.Held.TheVariants.{Absent, Plain, Extent, Mark}
@@ -11,7 +9,6 @@ use Rattle.ck_model.specs.Chain.{is_covered, is_live, keeps_data, newest_live_of
 use Rattle.ck_model.specs.Rules.{IsOrderly, IsOwn, KeyBelow, HeldBelow, stamp_in, block_in}
 use Rattle.ck_chain.specs.Kept.{pushed}
 use Rattle.ck_chain.specs.Naming.{IsNamed}
-use Rattle.ck_chain.proofs.Columns.{column-with_entry}
 use Rattle.ck_chain.proofs.Laws.{last_passes, live_stands}
 use Rattle.ck_chain.proofs.Orderly.{Fits, orderly_with, orderly_without, positive_id, still_stood, written_or_before}
 use Rattle.ck_chain.proofs.Moved.{fits_moved, fits_absent, stamp_pushed, block_pushed, entry_pushed}
@@ -59,10 +56,10 @@ push_apart t key lawful = map_some (IsPush t key) (λ entry. entry.0 ≢ 0) (pus
 pub push_entry : (t : Table) (key : Key) → IsTable t → IsKey key → IfSome (push_of t key) (λ entry. IsEntry key entry.1)
 push_entry t key lawful place = map_some (IsPush t key) (λ entry. IsEntry key entry.1) (push_of t key) (λ entry is.
     subst (IsEntry key) (sym is.is) (
-      elim (column t key 0) as (λ o. column t key 0 ≡ o → IsEntry key (pushed (keeps_data t entry.0) o)) [
-        | None ↦ λ at. record { place = place; value = tt }
-        | Some held ↦ λ at. entry_pushed (keeps_data t entry.0) key held (lawful.entries 0 key held at).1
-      ] refl)) (push_facts t key)
+    elim (column t key 0) as (λ o. column t key 0 ≡ o → IsEntry key (pushed (keeps_data t entry.0) o)) [
+      | None ↦ λ at. record { place = place; value = tt }
+      | Some held ↦ λ at. entry_pushed (keeps_data t entry.0) key held (lawful.entries 0 key held at).1
+    ] refl)) (push_facts t key)
 
 own_no_mark : (held : Held) (stamp : ℕ) → IsOwn held → held ≡ Mark stamp → ⊥
 own_no_mark Absent stamp own h = own
@@ -76,10 +73,10 @@ push_fits t key entry lawful is below push =
     let above = push_above t key entry lawful push in
     let stands = live_stands t entry.0 push.live in
     subst (Fits (with_entry t 0 key None) entry.0 key) (sym push.is) (
-      elim (column t key 0) as (λ o. column t key 0 ≡ o → Fits (with_entry t 0 key None) entry.0 key (pushed (keeps_data t entry.0) o)) [
-        | None ↦ λ at. fits_absent (with_entry t 0 key None) entry.0 key above stands below
-        | Some held ↦ λ at. fits_moved t 0 entry.0 key held is at above stands (λ stamp mark. absurd (own_no_mark held stamp (is.primary key held at) mark))
-      ] refl)
+    elim (column t key 0) as (λ o. column t key 0 ≡ o → Fits (with_entry t 0 key None) entry.0 key (pushed (keeps_data t entry.0) o)) [
+      | None ↦ λ at. fits_absent (with_entry t 0 key None) entry.0 key above stands below
+      | Some held ↦ λ at. fits_moved t 0 entry.0 key held is at above stands (λ stamp mark. absurd (own_no_mark held stamp (is.primary key held at) mark))
+    ] refl)
 
 -- an entry of the table with the primary's away and the push made: one of before, the primary's moved, or an absent
 abbrev pub Comes : Table → Key → ℕ → Key → Held → Type 0

@@ -1,5 +1,5 @@
 -- Which data blocks are named after a change, and the one that it releases.
-use Rattle.std.proofs.Common.{◌≡◌, ◌≢◌, ◌↔◌, ℕ, ◌<◌, Bool, true, false, cond, ◌⊎◌, inl, inr, Option, Some, None, is_some, IsSome, IfSome, option_and_then, nat_eq, if◌then◌else◌, refl, sym, ap, subst, ◌∙◌, arith}
+use Rattle.std.proofs.Common.{◌≡◌, ◌≢◌, ℕ, ◌<◌, false, cond, ◌⊎◌, inl, inr, Option, Some, None, IfSome, nat_eq, refl, sym, ap, subst, ◌∙◌, arith}
 use Rattle.std.specs.Option.{option_map}
 use Rattle.std.proofs.lemmas.Bool.Decides.{nat_tests}
 use Rattle.ck_model.specs.declared.key.Key.{Key}
@@ -11,8 +11,7 @@ use Rattle.ck_chain.specs.Kept.{pushed}
 use Rattle.ck_chain.specs.Naming.{block_of, IsNamed}
 use Rattle.ck_chain.proofs.Columns.{column-with_entry}
 use Rattle.ck_chain.proofs.Moved.{block_pushed}
-use Rattle.ck_chain.proofs.Orderly.{orderly_without}
-use Rattle.ck_chain.proofs.Names.{Naming, naming_of, named_here, named_written, named_else, named_without, named_tidied, named_before_tidied}
+use Rattle.ck_chain.proofs.Names.{named_here, named_written, named_else, named_without, named_tidied, named_before_tidied}
 use Rattle.ck_push.specs.Changed.{push_of, replaced, tidied_in, changed}
 use Rattle.ck_push.specs.Released.{unless_kept, released}
 use Rattle.ck_push.proofs.Replacing.{after_push, replaced_in_steps, primary_stays}
@@ -124,14 +123,16 @@ pub released_gone : (t : Table) (key : Key) (new : Option Held) (block : ℕ) �
     → released (column t key 0) (push_of t key) ≡ Some block → IsNamed t block × (IsNamed (changed t key new) block → ⊥)
 released_gone t key new block lawful is free freed =
     let of = released_of (block_of (column t key 0)) (kept_block (push_of t key)) block freed in
-    let was = named_primary t key block of.0 in
-    (was, λ named. elim (changed_steps t key new block lawful named) [
-      | inl first ↦ named_without t 0 key block is of.0 first
-      | inr rest ↦ elim rest [
-        | inl kept ↦ none_some block (sym of.1 ∙ kept)
-        | inr of_new ↦ free block of_new was
-      ]
-    ])
+    let was = named_primary t key block of.0 in (
+      was,
+      λ named. elim (changed_steps t key new block lawful named) [
+        | inl first ↦ named_without t 0 key block is of.0 first
+        | inr rest ↦ elim rest [
+          | inl kept ↦ none_some block (sym of.1 ∙ kept)
+          | inr of_new ↦ free block of_new was
+        ]
+      ],
+    )
 
 -- a block that nothing names any more is the released one
 pub gone_released : (t : Table) (key : Key) (new : Option Held) (block : ℕ) → IsTable t → IsNamed t block → (IsNamed (changed t key new) block → ⊥) → released (column t key 0) (push_of t key) ≡ Some block

@@ -1,6 +1,5 @@
 -- An entry is pushed and another set, in steps: what is there then, and the room that it takes.
-use Rattle.std.proofs.Common.{◌≡◌, ◌≢◌, ◌⊎◌, ℕ, ◌+◌, ◌-◌, ◌<◌, ◌≤◌, Bool, true, false, cond, not, inl, inr, Option, Some, None, is_some, IsSome, IfSome, MatchOption, nat_eq, if◌then◌else◌, refl, sym, ap, subst, ◌∙◌, arith}
-use mathlib.Core.Bool.{false≢true}
+use Rattle.std.proofs.Common.{◌≡◌, ◌≢◌, ◌⊎◌, ℕ, ◌+◌, ◌<◌, ◌≤◌, cond, not, inl, inr, Option, Some, None, is_some, IsSome, IfSome, refl, sym, ap, subst, ◌∙◌, arith}
 use Rattle.std.proofs.lemmas.Bool.Decides.{nat_tests}
 use Rattle.ck_model.specs.declared.key.Key.{Key}
 use Rattle.ck_model.specs.declared.held.Held.{Held}
@@ -42,10 +41,10 @@ room_to_set t key push apart room =
     let count = push_count t key push in
     let same : column (after_push t key push) key 0 ≡ column t key 0 = primary_stays t key push apart in
     subst (λ (o : Option Held). IsSome o ⊎ (0 < spare_count (after_push t key push))) (sym same) (
-      elim (column t key 0) as (λ o. one_if (is_some push) + one_if (not (is_some o)) ≤ spare_count t → IsSome o ⊎ (0 < spare_count (after_push t key push))) [
-        | Some held ↦ λ room. inl refl
-        | None ↦ λ room. inr (omega arith)
-      ] room)
+    elim (column t key 0) as (λ o. one_if (is_some push) + one_if (not (is_some o)) ≤ spare_count t → IsSome o ⊎ (0 < spare_count (after_push t key push))) [
+      | Some held ↦ λ room. inl refl
+      | None ↦ λ room. inr (omega arith)
+    ] room)
 
 -- a deletion frees a record
 pub room_after_del : (t : Table) (key : Key) → IsSized t → IsSome (column t key 0) → 0 < spare_count (with_entry t 0 key None)

@@ -1,5 +1,5 @@
 -- Several changes of different keys, the deletions first: where there is room for all together, each has room in its turn.
-use Rattle.std.proofs.Common.{◌≡◌, ℕ, ◌+◌, ◌-◌, ◌<◌, ◌≤◌, Bool, true, false, ◌&&◌, ◌||◌, not, List, [], ◌∷◌, ◌++◌, Option, Some, None, is_some, if◌then◌else◌, refl, sym, ap, subst, ◌∙◌, arith}
+use Rattle.std.proofs.Common.{◌≡◌, ℕ, ◌+◌, ◌-◌, ◌≤◌, Bool, true, false, ◌&&◌, ◌||◌, not, List, [], ◌∷◌, ◌++◌, Option, Some, None, is_some, if◌then◌else◌, refl, sym, ap, ◌∙◌, arith}
 use Rattle.std.specs.List.{list_any}
 use Rattle.ck_model.specs.declared.key.Key.{Key}
 use Rattle.ck_model.specs.declared.held.Held.{Held}
@@ -127,6 +127,7 @@ room_in_turn t u made change left fits limit first room counted filesets same = 
     unless : (b : Bool) → not b ≡ true → b ≡ false
     unless true h = cc
     unless false h = refl
+
     go : (deletes : Bool) → is_deletion change ≡ deletes → growth u change ≤ spare_count u
     go true h = let none = deletion_grows u change h in omega arith
     go false h =

@@ -1,5 +1,5 @@
 -- What a checkpoint's reader sees after a change, and what the primary and the other keys hold.
-use Rattle.std.proofs.Common.{◌≡◌, ◌≢◌, ℕ, ◌+◌, ◌-◌, ◌<◌, ◌≤◌, Bool, true, false, cond, ◌⊎◌, inl, inr, ◌∷◌, Option, Some, None, is_some, IsSome, IfSome, IsSomeAnd, nat_eq, if◌then◌else◌, refl, sym, ap, subst, ◌∙◌, arith}
+use Rattle.std.proofs.Common.{◌≡◌, ◌≢◌, ℕ, ◌<◌, ◌≤◌, Bool, true, false, cond, inl, inr, ◌∷◌, Option, Some, None, IsSome, IfSome, IsSomeAnd, nat_eq, refl, sym, ap, subst, ◌∙◌, arith}
 use Rattle.std.specs.Ordering.{eq_by_cmp}
 use Rattle.std.specs.Option.{option_or}
 use Rattle.std.specs.FinMap as map
@@ -7,7 +7,7 @@ use Rattle.std.proofs.lemmas.Bool.Decides.{nat_tests}
 use Rattle.ck_model.specs.declared.key.Key.{Key}
 use Rattle.ck_model.specs.declared.held.Held.{Held}
 use Rattle.ck_model.specs.Key.{key_cmp}
-use Rattle.ck_model.specs.Table.{Table, IsTable, newer, column, with_entry, written}
+use Rattle.ck_model.specs.Table.{Table, IsTable, newer, column, with_entry}
 use Rattle.ck_model.specs.Chain.{first_entry, keeps_data, seen, is_live, newest_live_of, is_covered}
 use Rattle.ck_chain.specs.Kept.{pushed}
 use Rattle.ck_chain.proofs.Columns.{column-with_entry, column-with_entry_other, same_or_other}
@@ -56,9 +56,9 @@ after_reads t n key new above live fs q positive le = elim (same_or_other q key)
   | inr other ↦ ap (λ (c : ℕ → Option Held). read_as (keeps_data t fs) (first_entry c (fs ∷ newer t fs))) (column-after_other t n key new q other)
   | inl same ↦
       subst (λ k. seen (after t n key new) fs k ≡ seen t fs k) (sym same)
-        (older_reads t (column (after t n key new) key) key (keeps_data t fs) fs n positive le (live_stands t n live)
-          (λ x low high. column-after t n key new x ∙ grind (arith, nat_tests))
-          (newest_reads t n key new (keeps_data t fs) above (keeps_newer t fs n le)))
+      (older_reads t (column (after t n key new) key) key (keeps_data t fs) fs n positive le (live_stands t n live)
+      (λ x low high. column-after t n key new x ∙ grind (arith, nat_tests))
+      (newest_reads t n key new (keeps_data t fs) above (keeps_newer t fs n le)))
 ]
 
 -- The push and the primary's new entry leave what every live checkpoint's reader sees.

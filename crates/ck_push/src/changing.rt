@@ -27,10 +27,9 @@ pub fn change<M: Meta>(meta: &mut M, item: &Change, stamp: u64) -> Freed
     requires stamp { stamp < (M.table meta.old).counters.stamp }
     requires version { (fs : ℕ) (held : Held) →
         column (M.table meta.old) (key_of item.now) fs ≡ Some held → stamp_in held ≢ Some stamp }
-    requires numbers {
-        let next = (M.table meta.old).counters.number in
+    requires numbers { let next = (M.table meta.old).counters.number in
         IfSome (value_after item.now stamp)
-          (λ held. KeyBelow next (key_of item.now) × HeldBelow next held) }
+        (λ held. KeyBelow next (key_of item.now) × HeldBelow next held) }
     requires block { IfSome (block_of (value_after item.now stamp))
         (λ block. (block < (M.table meta.old).blocks) × (IsNamed (M.table meta.old) block → ⊥)) }
     ensures changed { M.table meta.new

@@ -42,7 +42,7 @@ fn is_pushed<M: Meta>(meta: &M, key: &Key, newest: Option<u32>) -> bool
 fn is_newer_covered<M: Meta>(meta: &M, fs: u32, key: &Key) -> bool
     ensures { result
         ≡ list_any (λ id. is_some (column (M.table meta.now) key.now id))
-          (newer (M.table meta.now) fs) }
+        (newer (M.table meta.now) fs) }
 {
     match meta.next_fileset(fs) {
         None => false,
@@ -56,9 +56,7 @@ fn absent_goes<M: Meta>(meta: &M, key: &Key, newest: Option<u32>) -> bool
 {
     match newest {
         None => false,
-        Some(fs) => {
-            meta.get(fs, key) == Some(Held::Absent) && !is_newer_covered(meta, fs, key)
-        }
+        Some(fs) => { meta.get(fs, key) == Some(Held::Absent) && !is_newer_covered(meta, fs, key) }
     }
 }
 

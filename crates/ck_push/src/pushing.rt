@@ -79,8 +79,7 @@ pub fn released(old: Option<Held>, push: Option<(u32, Held)>) -> Freed
 fn push<M: Meta>(meta: &mut M, key: &Key, push: Option<(u32, Held)>)
     requires room { IfSome push (λ entry. 0 < spare_count (M.table meta.old)) }
     requires entry { IfSome push (λ entry. IsEntry key.now entry.1) }
-    ensures {
-        let t = M.table meta.old in
+    ensures { let t = M.table meta.old in
         M.table meta.new ≡ record t { entries = with_push t.entries key.now push } }
 {
     if let Some((fs, held)) = push {
@@ -90,20 +89,14 @@ fn push<M: Meta>(meta: &mut M, key: &Key, push: Option<(u32, Held)>)
 
 /// Pushes what is pushed, and sets what the primary holds. A deletion takes the primary's entry away
 /// first, so that its record is free for what is pushed.
-pub fn replace<M: Meta>(
-    meta: &mut M,
-    key: &Key,
-    entry: Option<(u32, Held)>,
-    new: Option<Held>,
-)
+pub fn replace<M: Meta>(meta: &mut M, key: &Key, entry: Option<(u32, Held)>, new: Option<Held>)
     requires checkpoint { IfSome entry (λ entry. entry.0 ≢ 0) }
     requires pushed { IfSome entry (λ entry. IsEntry key.now entry.1) }
     requires new { IfSome new (λ held. IsEntry key.now held) }
-    requires room {
-        let t = M.table meta.old in
+    requires room { let t = M.table meta.old in
         MatchOption new (IsSome (column t key.now 0))
-          (λ held. one_if (is_some entry) + one_if (not (is_some (column t key.now 0)))
-            ≤ spare_count t) }
+        (λ held. one_if (is_some entry) + one_if (not (is_some (column t key.now 0)))
+        ≤ spare_count t) }
     ensures { M.table meta.new ≡ replaced (M.table meta.old) key.now entry new }
 {
     match new {

@@ -1,4 +1,4 @@
-use Rattle.std.proofs.Common.{◌≡◌, ℕ, ◌-◌, ◌^◌, ◌&&◌, nat_le}
+use Rattle.std.proofs.Common.{◌≡◌, ◌-◌, ◌^◌, ◌&&◌, nat_le}
 use Rattle.std.specs.List.{list_any}
 use Rattle.ck_model.specs.Table.{newer}
 use Rattle.ck_model.specs.Chain.{keeps_data, is_live_data}

@@ -1,4 +1,4 @@
-use Rattle.std.proofs.Common.{◌≡◌, ℕ, ◌-◌, ◌^◌}
+use Rattle.std.proofs.Common.{◌≡◌, ◌-◌, ◌^◌}
 use Rattle.std.specs.Option.{option_or}
 use Rattle.ck_model.specs.Table.{newer}
 use Rattle.ck_model.specs.Chain.{newest_live_of, last_of, is_live}

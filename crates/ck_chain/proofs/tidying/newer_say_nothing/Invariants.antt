@@ -1,4 +1,4 @@
-use Rattle.std.proofs.Common.{◌≡◌, ℕ, ◌-◌, ◌^◌}
+use Rattle.std.proofs.Common.{◌≡◌, ◌-◌, ◌^◌}
 use Rattle.ck_model.specs.Table.{column, newer}
 use Rattle.ck_model.specs.Rules.{first_holder}
 use Rattle.ck_chain.proofs.tidying.newer_say_nothing.Given as goal

@@ -1,10 +1,9 @@
-use Rattle.std.proofs.Common.{rules, ◌≡◌, ◌≤◌, ◌↔◌, ℕ, Some, true, sym, subst, ap}
-use Rattle.ck_model.specs.declared.key.Key.{Key}
+use Rattle.std.proofs.Common.{rules, ◌≡◌, ◌≤◌, ◌↔◌, Some, sym, subst}
 use Rattle.ck_model.specs.declared.held.Held.TheVariants.{Absent, Extent}
 use Rattle.ck_model.specs.Table.{column, record_count}
-use Rattle.ck_model.specs.Chain.{is_live, seen}
+use Rattle.ck_model.specs.Chain.{seen}
 use Rattle.ck_model.specs.Rules.{IsNeeded, IsOrderly}
-use Rattle.ck_chain.specs.Needless.{is_needless, tidied}
+use Rattle.ck_chain.specs.Needless.{tidied}
 use Rattle.ck_chain.proofs.Laws.{live_stands}
 use Rattle.ck_chain.proofs.Orderly.{positive_id}
 use Rattle.ck_chain.proofs.Holders.{needed_tidied, needed_here, orderly_tidied}
@@ -37,7 +36,7 @@ returns-then-is_needless-clause-kept g c at q live =
     let lawful = g.met.M.Meta.lawful c.args.meta.now in
     let stands = live_stands t c.args.fs c.requires.live in
     subst (λ u. seen u at q ≡ seen t at q) (sym same)
-      (tidied_reads t c.args.fs c.args.key.now (positive_id t c.args.fs lawful stands) stands at q (positive_id t at lawful (live_stands t at live)))
+    (tidied_reads t c.args.fs c.args.key.now (positive_id t c.args.fs lawful stands) stands at q (positive_id t at lawful (live_stands t at live)))
 
 pub returns-then-is_needless-clause-orderly : goal.returns-then-is_needless-clause-orderly
 returns-then-is_needless-clause-orderly g c =
@@ -57,4 +56,4 @@ returns-then-is_needless-clause-here g c left =
     let t = g.M.Meta.table c.args.meta.now in
     let same : g.M.Meta.table c.del.new.self ≡ tidied t c.args.fs c.args.key.now = search rules in
     subst (λ u. IsNeeded u c.args.key.now c.args.fs) (sym same)
-      (needed_here t c.args.fs c.args.key.now (subst (λ u. column u c.args.key.now c.args.fs ≡ Some Absent) same left))
+    (needed_here t c.args.fs c.args.key.now (subst (λ u. column u c.args.key.now c.args.fs ≡ Some Absent) same left))

@@ -1,4 +1,4 @@
-use Rattle.std.proofs.Common.{◌≡◌, ℕ, ◌-◌, ◌^◌}
+use Rattle.std.proofs.Common.{◌≡◌, ◌-◌, ◌^◌}
 use Rattle.ck_model.specs.Chain.{is_covered}
 use Rattle.ck_chain.proofs.values.is_covered.Given as goal
 

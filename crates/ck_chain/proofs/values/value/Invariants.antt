@@ -1,4 +1,4 @@
-use Rattle.std.proofs.Common.{◌≡◌, ℕ, ◌-◌, ◌^◌}
+use Rattle.std.proofs.Common.{◌≡◌, ◌-◌, ◌^◌}
 use Rattle.ck_model.specs.Chain.{value_of}
 use Rattle.ck_chain.proofs.values.value.Given as goal
 

@@ -1,6 +1,6 @@
-use Rattle.std.proofs.Common.{◌≡◌, ◌≤◌, ◌⊎◌, ◌<◌, ◌+◌, ℕ, Option, Some, None, IfSome, IsSome, MatchOption, is_some, not, rules, arith, refl, sym, ap, subst, ◌∙◌}
+use Rattle.std.proofs.Common.{◌≤◌, ◌⊎◌, ◌<◌, ◌+◌, Option, IsSome, MatchOption, is_some, not, sym, ap, subst, ◌∙◌}
 use Rattle.ck_model.specs.declared.held.Held.{Held}
-use Rattle.ck_model.specs.Table.{column, spare_count, with_entry}
+use Rattle.ck_model.specs.Table.{column, spare_count}
 use Rattle.ck_push.specs.Changed.{replaced}
 use Rattle.ck_push.specs.Growth.{one_if}
 use Rattle.ck_push.proofs.Replacing.{after_push, del_first, room_to_set, room_after_del, if_pushed}
@@ -19,7 +19,7 @@ push-requires-in-None-clause-room g c =
     let key = c.args.key.now in
     let some = subst (λ (new : Option Held). MatchOption new (IsSome (column t key 0)) (λ held. one_if (is_some c.args.entry) + one_if (not (is_some (column t key 0))) ≤ spare_count t)) c.in-None.is c.requires.room in
     if_pushed c.args.entry (0 < spare_count (g.M.Meta.table c.del.new.self)) (
-      subst (λ u. 0 < spare_count u) (sym c.del.ensures) (room_after_del t key (g.met.M.Meta.sized c.args.meta.now) some))
+    subst (λ u. 0 < spare_count u) (sym c.del.ensures) (room_after_del t key (g.met.M.Meta.sized c.args.meta.now) some))
 
 pub returns-in-None : goal.returns-in-None
 returns-in-None g c =
