@@ -7,3 +7,4 @@ pub mod Holders
 pub mod TidyLaws
 pub mod Moved
 pub mod Names
+pub mod SameValues

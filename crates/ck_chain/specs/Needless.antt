@@ -1,10 +1,10 @@
 -- Which entries of checkpoints can go, since the newer filesets say the same.
-use Rattle.std.specs.Prelude.{ℕ, Bool, true, false, ◌&&◌, not, Option, Some, None, if◌then◌else◌}
+use Rattle.std.specs.Prelude.{◌≡◌, ℕ, Bool, true, false, ◌&&◌, not, Option, Some, None, IfSome, if◌then◌else◌}
 use Rattle.ck_model.specs.declared.key.Key.{Key}
 use Rattle.ck_model.specs.declared.held.Held.{Held}
 use Rattle.ck_model.specs.declared.held.Held.TheVariants.{Absent, Plain, Extent, Mark}
 use Rattle.ck_model.specs.Table.{Table, column, newer, written}
-use Rattle.ck_model.specs.Chain.{is_gone}
+use Rattle.ck_model.specs.Chain.{first_entry, is_gone, present}
 use Rattle.ck_model.specs.Rules.{first_holder}
 
 abbrev pub is_absent : Option Held → Bool
@@ -23,6 +23,11 @@ says_nothing t (Some holder) = is_absent (Some holder.1) && not (is_gone t holde
 -- Versions of a key are unique, so that only an absent can say what another entry says.
 abbrev pub is_needless : Table → ℕ → Key → Bool
 is_needless t fs key = is_absent (column t key fs) && says_nothing t (first_holder (column t key) (newer t fs))
+
+-- the entry says what the newer filesets say, of which the first with an entry isn't gone
+pub record SaysSame (t : Table) (fs : ℕ) (key : Key) : Type 0 where
+  pub value : present (column t key fs) ≡ present (first_entry (column t key) (newer t fs))
+  pub stands : IfSome (first_holder (column t key) (newer t fs)) (λ holder. is_gone t holder.0 ≡ false)
 
 -- the table without the entry, where it is needless
 abbrev pub tidied : Table → ℕ → Key → Table

@@ -1,11 +1,11 @@
-ghost use Rattle.std.specs.Prelude.{◌≡◌, ◌≤◌, ◌↔◌, ℕ, Some, true};
+ghost use Rattle.std.specs.Prelude.{◌≡◌, ◌≤◌, ◌↔◌, ℕ, IsSome, None, Some, true};
 ghost use Rattle.std.specs.Option.{option_map};
 ghost use Rattle.ck_model.specs.declared.key.Key.{Key};
 ghost use Rattle.ck_model.specs.declared.held.Held.TheVariants.{Absent, Extent};
 ghost use Rattle.ck_model.specs.Table.{column, newer, record_count};
 ghost use Rattle.ck_model.specs.Chain.{is_gone, is_live, seen};
 ghost use Rattle.ck_model.specs.Rules.{first_holder, IsNeeded, IsOrderly};
-ghost use Rattle.ck_chain.specs.Needless.{is_needless, says_nothing, tidied};
+ghost use Rattle.ck_chain.specs.Needless.{is_needless, says_nothing, tidied, SaysSame};
 
 use ck_model::{Held, Key, Meta};
 
@@ -55,6 +55,8 @@ pub fn tidy<M: Meta>(meta: &mut M, fs: u32, key: &Key)
     requires live { is_live (M.table meta.old) fs ≡ true }
     requires orderly { IsOrderly (M.table meta.old) }
     ensures tidied { M.table meta.new ≡ tidied (M.table meta.old) fs key.now }
+    ensures goes { IsSome (column (M.table meta.old) key.now fs) →
+        (column (M.table meta.new) key.now fs ≡ None) ↔ SaysSame (M.table meta.old) fs key.now }
     ensures filesets { (M.table meta.new).filesets ≡ (M.table meta.old).filesets }
     ensures counters { (M.table meta.new).counters ≡ (M.table meta.old).counters }
     ensures blocks { (M.table meta.new).blocks ≡ (M.table meta.old).blocks }

@@ -16,8 +16,11 @@ use crate::pushing::{key_of, push_into, released, replace, tidy_newest, value_af
 use ck_chain::newest_live;
 use ck_model::{Change, Freed, Meta};
 
-/// Changes the primary, as a call with this stamp. What it held goes into the newest checkpoint that
-/// isn't gone, unless that or a newer one has an entry at the key.
+/// Changes the primary, as the call with this stamp. What it held goes into the newest checkpoint
+/// that isn't gone, unless that or a newer one has an entry at the key: as an absent where it held
+/// nothing, and a data block as a mark where that checkpoint keeps no data.
+///
+/// Gives the data block that nothing names any more, if there is one. No memory is taken.
 pub fn change<M: Meta>(meta: &mut M, item: &Change, stamp: u64) -> Freed
     requires sound { IsSound (M.table meta.old) }
     requires room { growth (M.table meta.old) item.now ≤ spare_count (M.table meta.old) }

@@ -81,8 +81,8 @@ fn loss<M: Meta>(meta: &M, item: &Change, newest: Option<u32>) -> u32
     one_if(deletes) + one_if(goes)
 }
 
-/// What changes of different keys take: data blocks, and records beside those that stand. Where the
-/// deletions come first, each change has room once there is room for all.
+/// What changes of different keys take together: data blocks, and records beside those that stand.
+/// Where the deletions come first, each change has room in its turn once there is room for all.
 pub fn cost<M: Meta>(meta: &M, changes: &[Change]) -> Cost
     requires { length changes.now < 2 ^ 31 }
     ensures blocks { result.blocks ≡ write_count changes.now }

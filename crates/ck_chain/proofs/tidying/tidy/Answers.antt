@@ -1,14 +1,31 @@
-use Rattle.std.proofs.Common.{rules, ◌≡◌, ◌≤◌, ◌↔◌, Some, sym, subst}
+use Rattle.std.proofs.Common.{rules, ◌≡◌, ◌≤◌, ◌↔◌, Some, None, sym, subst}
 use Rattle.ck_model.specs.declared.held.Held.TheVariants.{Absent, Extent}
 use Rattle.ck_model.specs.Table.{column, record_count}
 use Rattle.ck_model.specs.Chain.{seen}
 use Rattle.ck_model.specs.Rules.{IsNeeded, IsOrderly}
-use Rattle.ck_chain.specs.Needless.{tidied}
+use Rattle.ck_chain.specs.Needless.{tidied, SaysSame}
 use Rattle.ck_chain.proofs.Laws.{live_stands}
 use Rattle.ck_chain.proofs.Orderly.{positive_id}
 use Rattle.ck_chain.proofs.Holders.{needed_tidied, needed_here, orderly_tidied}
 use Rattle.ck_chain.proofs.TidyLaws.{tidied_reads, tidied_primary, tidied_extents, tidied_shrinks}
+use Rattle.ck_chain.proofs.SameValues.{goes_where_same}
 use Rattle.ck_chain.proofs.tidying.tidy.Goals as goal
+
+pub returns-then-is_needless-clause-goes : goal.returns-then-is_needless-clause-goes
+returns-then-is_needless-clause-goes g c some =
+    let t = g.M.Meta.table c.args.meta.now in
+    let same : g.M.Meta.table c.del.new.self ≡ tidied t c.args.fs c.args.key.now = search rules in
+    let positive = positive_id t c.args.fs (g.met.M.Meta.lawful c.args.meta.now) (live_stands t c.args.fs c.requires.live) in
+    subst (λ u. (column u c.args.key.now c.args.fs ≡ None) ↔ SaysSame t c.args.fs c.args.key.now) (sym same)
+    (goes_where_same t c.args.fs c.args.key.now c.requires.orderly positive some)
+
+pub returns-else-is_needless-clause-goes : goal.returns-else-is_needless-clause-goes
+returns-else-is_needless-clause-goes g c some =
+    let t = g.M.Meta.table c.args.meta.now in
+    let same : t ≡ tidied t c.args.fs c.args.key.now = search rules in
+    let positive = positive_id t c.args.fs (g.met.M.Meta.lawful c.args.meta.now) (live_stands t c.args.fs c.requires.live) in
+    subst (λ u. (column u c.args.key.now c.args.fs ≡ None) ↔ SaysSame t c.args.fs c.args.key.now) (sym same)
+    (goes_where_same t c.args.fs c.args.key.now c.requires.orderly positive some)
 
 pub returns-then-is_needless-clause-records : goal.returns-then-is_needless-clause-records
 returns-then-is_needless-clause-records g c =
