@@ -1,5 +1,5 @@
 -- The first fileset that has an entry, and which absents are needed, after a table is changed at one key.
-use Rattle.std.proofs.Common.{◌≡◌, ◌≢◌, ℕ, ◌<◌, ◌≤◌, Bool, true, false, cond, ◌&&◌, ◌||◌, not, ◌⊎◌, inl, inr, List, [], ◌∷◌, ◌++◌, filter, Option, Some, None, is_some, IsSome, IsSomeAnd, nat_lt, if◌then◌else◌, refl, sym, ap, subst, ◌∙◌, arith}
+use Rattle.std.proofs.Common.{◌≡◌, ◌≢◌, ℕ, ◌<◌, ◌≤◌, true, false, cond, ◌&&◌, ◌||◌, not, ◌⊎◌, inl, inr, List, [], ◌∷◌, ◌++◌, filter, Option, Some, None, is_some, IsSome, IsSomeAnd, nat_lt, if◌then◌else◌, refl, sym, ap, subst, ◌∙◌, arith}
 use Rattle.std.specs.Option.{option_or, option_map, option_map_or}
 use Rattle.std.specs.List.{AllByRecursion, list_any}
 use Rattle.std.specs.FinMap as map
@@ -13,6 +13,7 @@ use Rattle.ck_model.specs.Table.{Table, newer, column, with_entry, written}
 use Rattle.ck_model.specs.Chain.{first_entry, present, is_live, is_gone, newest_live_of}
 use Rattle.ck_model.specs.Rules.{first_holder, IsNeeded, IsOrderly}
 use Rattle.ck_chain.specs.Needless.{is_absent, says_nothing, is_needless, tidied}
+use Rattle.ck_chain.proofs.Basics.{and_left, and_right, not_false}
 use Rattle.ck_chain.proofs.Newer.{newer_split, in_between}
 use Rattle.ck_chain.proofs.Columns.{column-with_entry, column-with_entry_other, same_or_other}
 use Rattle.ck_chain.proofs.Laws.{each_above, live_stands, newest_at_least}
@@ -22,12 +23,8 @@ use Rattle.ck_chain.proofs.Orderly.{orderly_without}
 abbrev pub Says : Table → Option (ℕ × Held) → Type 0
 Says t holder = IsSomeAnd holder (λ h. (is_gone t h.0 ≡ true) ⊎ (h.1 ≢ Absent))
 
-not_gone : (b : Bool) → not b ≡ false → b ≡ true
-not_gone true h = refl
-not_gone false h = cc
-
 says_at : (t : Table) (g : ℕ) (held : Held) → (is_absent (Some held) && not (is_gone t g)) ≡ false → (is_gone t g ≡ true) ⊎ (held ≢ Absent)
-says_at t g Absent h = inl (not_gone (is_gone t g) h)
+says_at t g Absent h = inl (not_false (is_gone t g) h)
 says_at t g (Plain stamp small) h = inr (λ e. cc)
 says_at t g (Extent stamp block) h = inr (λ e. cc)
 says_at t g (Mark stamp) h = inr (λ e. cc)
@@ -54,14 +51,6 @@ silent t g (Mark stamp) h = cc
 pub nothing_there : (t : Table) (holder : Option (ℕ × Held)) → says_nothing t holder ≡ true → present (option_map (λ (h : ℕ × Held). h.1) holder) ≡ None
 nothing_there t None h = refl
 nothing_there t (Some holder) h = silent t holder.0 holder.1 h
-
-and_left : (a b : Bool) → (a && b) ≡ true → a ≡ true
-and_left true b h = refl
-and_left false b h = h
-
-and_right : (a b : Bool) → (a && b) ≡ true → b ≡ true
-and_right true b h = h
-and_right false b h = cc
 
 absent_is : (held : Option Held) → is_absent held ≡ true → held ≡ Some Absent
 absent_is None h = cc
@@ -208,7 +197,7 @@ holder_above c fs (x ∷ ids) h =
 pub dead_gone : (t : Table) (fs : ℕ) → IsSome (map.get t.filesets fs) → is_live t fs ≡ false → is_gone t fs ≡ true
 dead_gone t fs stands dead = elim (map.get t.filesets fs) as (λ o. IsSome o → option_map_or (λ fileset. not fileset.gone) o false ≡ false → option_map_or (λ fileset. fileset.gone) o false ≡ true) [
   | None ↦ λ s d. s
-  | Some fileset ↦ λ s d. not_gone fileset.gone d
+  | Some fileset ↦ λ s d. not_false fileset.gone d
 ] stands dead
 
 -- a checkpoint newer than the newest one that isn't gone is gone, if it has an entry

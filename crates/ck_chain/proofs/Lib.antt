@@ -1,3 +1,4 @@
+pub mod Basics
 pub mod Newer
 pub mod Columns
 pub mod Laws

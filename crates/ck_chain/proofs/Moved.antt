@@ -11,6 +11,7 @@ use Rattle.ck_model.specs.Held.{IsEntry, BelongsTo}
 use Rattle.ck_model.specs.Chain.{keeps_data, as_mark}
 use Rattle.ck_model.specs.Rules.{IsOrderly, KeyBelow, HeldBelow, stamp_in, block_in}
 use Rattle.ck_chain.specs.Kept.{pushed}
+use Rattle.ck_chain.proofs.Basics.{none_some}
 use Rattle.ck_chain.proofs.Columns.{column-with_entry}
 use Rattle.ck_chain.proofs.Orderly.{Fits, still_stood}
 
@@ -62,9 +63,6 @@ pub entry_pushed : (keeps : Bool) (key : Key) (held : Held) → IsEntry key held
 entry_pushed true key held h = h
 entry_pushed false key held h = record { place = h.place; value = belongs_marked key held h.value }
 
-not_some : (held : Held) → ◌≡◌ {A = Option Held} None (Some held) → ⊥
-not_some held h = cc
-
 -- the entry of one fileset may go to a checkpoint, as a mark where that doesn't keep data
 pub fits_moved : (t : Table) (g f : ℕ) (key : Key) (held : Held) → IsOrderly t → column t key g ≡ Some held → 0 < f → IsSome (map.get t.filesets f)
     → ((stamp : ℕ) → held ≡ Mark stamp → keeps_data t f ≡ false) → Fits (with_entry t g key None) f key (pushed (keeps_data t f) (Some held))
@@ -81,11 +79,11 @@ fits_moved t g f key held is at positive stands only =
       unshared = λ gs other again block there of_again of_new.
           let one = is.unshared gs g other key again held block (still_stood t g key gs other again there) at of_again (block_pushed keeps held block of_new) in
           let wrong : ◌≡◌ {A = Option Held} None (Some again) = sym none ∙ sym (ap (λ k. column (with_entry t g key None) k g) one.1) ∙ sym (ap (column (with_entry t g key None) other) one.0) ∙ there in
-          absurd (not_some again wrong);
+          absurd (none_some again wrong);
       version = λ gs again stamp there of_again of_new.
           let one = is.versions gs g key again held stamp (still_stood t g key gs key again there) at of_again (sym (stamp_pushed keeps held) ∙ of_new) in
           let wrong : ◌≡◌ {A = Option Held} None (Some again) = sym none ∙ sym (ap (column (with_entry t g key None) key) one) ∙ there in
-          absurd (not_some again wrong);
+          absurd (none_some again wrong);
     }
 
 -- an absent may stand in any checkpoint

@@ -7,6 +7,7 @@ use Rattle.ck_model.specs.Table.{Table, column, with_entry}
 use Rattle.ck_model.specs.Rules.{IsOrderly, block_in}
 use Rattle.ck_chain.specs.Naming.{block_of, IsNamed}
 use Rattle.ck_chain.specs.Needless.{tidied}
+use Rattle.ck_chain.proofs.Basics.{none_some}
 use Rattle.ck_chain.proofs.Columns.{column-with_entry, column-with_entry_other, same_or_other}
 use Rattle.ck_chain.proofs.Orderly.{still_stood}
 use Rattle.ck_chain.proofs.TidyLaws.{column-tidied}
@@ -58,9 +59,6 @@ named_else t fs key w block named = elim (place_of t fs key w named.0 named.1.0)
   | inr stays ↦ inl (named.0, (named.1.0, ap block_of stays ∙ named.1.1))
 ]
 
-nothing_held : (held : Held) → ◌≡◌ {A = Option Held} None (Some held) → ⊥
-nothing_held held h = cc
-
 -- where an entry goes, nothing names its block
 pub named_without : (t : Table) (fs : ℕ) (key : Key) (block : ℕ) → IsOrderly t → block_of (column t key fs) ≡ Some block → IsNamed (with_entry t fs key None) block → ⊥
 named_without t fs key block is was named =
@@ -69,20 +67,17 @@ named_without t fs key block is was named =
     let left = naming_of (column u named.1.0 named.0) block named.1.1 in
     let one = is.unshared named.0 fs named.1.0 key left.held old.held block (still_stood t fs key named.0 named.1.0 left.held left.stands) old.stands left.names old.names in
     let gone : column u named.1.0 named.0 ≡ None = ap (λ k. column u k named.0) one.1 ∙ ap (column u key) one.0 ∙ here t fs key None in
-    nothing_held left.held (sym gone ∙ left.stands)
-
-no_block : (block : ℕ) → ◌≡◌ {A = Option ℕ} None (Some block) → ⊥
-no_block block h = cc
+    none_some left.held (sym gone ∙ left.stands)
 
 -- tidying takes away no name
 pub named_tidied : (t : Table) (f : ℕ) (key : Key) (block : ℕ) → IsNamed (tidied t f key) block → IsNamed t block
 named_tidied t f key block named = elim (column-tidied t f key named.0 named.1.0) [
   | inl same ↦ (named.0, (named.1.0, ap block_of (sym same) ∙ named.1.1))
-  | inr gone ↦ let wrong = sym (ap block_of gone.3) ∙ named.1.1 in absurd (no_block block wrong)
+  | inr gone ↦ let wrong = sym (ap block_of gone.3) ∙ named.1.1 in absurd (none_some block wrong)
 ]
 
 pub named_before_tidied : (t : Table) (f : ℕ) (key : Key) (block : ℕ) → IsNamed t block → IsNamed (tidied t f key) block
 named_before_tidied t f key block named = elim (column-tidied t f key named.0 named.1.0) [
   | inl same ↦ (named.0, (named.1.0, ap block_of same ∙ named.1.1))
-  | inr gone ↦ let wrong = sym (ap block_of gone.2) ∙ named.1.1 in absurd (no_block block wrong)
+  | inr gone ↦ let wrong = sym (ap block_of gone.2) ∙ named.1.1 in absurd (none_some block wrong)
 ]

@@ -1,7 +1,6 @@
 -- The rules of a table, after an entry is written or goes.
 use Rattle.std.proofs.Common.{◌≡◌, ℕ, ◌<◌, ◌≤◌, true, false, cond, ◌⊎◌, inl, inr, Option, Some, None, is_some, IsSome, IfSome, nat_eq, refl, sym, ap, subst, ◌∙◌, arith}
 use Rattle.std.specs.FinMap as map
-use mathlib.Core.Bool.{false≢true}
 use Rattle.std.proofs.lemmas.Bool.Decides.{nat_tests}
 use Rattle.ck_model.specs.declared.key.Key.{Key}
 use Rattle.ck_model.specs.declared.held.Held.{Held}
@@ -9,14 +8,8 @@ use Rattle.ck_model.specs.declared.held.Held.TheVariants.{Mark}
 use Rattle.ck_model.specs.Table.{Table, IsTable, column, with_entry}
 use Rattle.ck_model.specs.Chain.{keeps_data}
 use Rattle.ck_model.specs.Rules.{IsOrderly, IsOwn, KeyBelow, HeldBelow, stamp_in, block_in}
+use Rattle.ck_chain.proofs.Basics.{some_is, some_same}
 use Rattle.ck_chain.proofs.Columns.{column-with_entry, column-with_entry_other, same_or_other}
-
-some_same : {X : Type 0} (x y : X) → ◌≡◌ {A = Option X} (Some x) (Some y) → x ≡ y
-some_same x y h = cc
-
-pub some_is : {X : Type 0} (o : Option X) → IsSome o → (x : X) × (o ≡ Some x)
-some_is None h = absurd (false≢true h)
-some_is (Some x) h = (x, refl)
 
 -- the ids of filesets are at least 1
 pub positive_id : (t : Table) (id : ℕ) → IsTable t → IsSome (map.get t.filesets id) → 1 ≤ id

@@ -12,15 +12,13 @@ use Rattle.ck_model.specs.Table.{Table, column, newer, written}
 use Rattle.ck_model.specs.Chain.{first_entry, is_gone, present}
 use Rattle.ck_model.specs.Rules.{IsOrderly, first_holder, stamp_in}
 use Rattle.ck_chain.specs.Needless.{is_absent, is_needless, says_nothing, tidied, SaysSame}
+use Rattle.ck_chain.proofs.Basics.{and_right, some_same}
 use Rattle.ck_chain.proofs.Columns.{column-with_entry}
 use Rattle.ck_chain.proofs.Holders.{entry_of_holder, holder_above, needless_same, none_holder}
 
-some_pair : (x y : ℕ × Held) → ◌≡◌ {A = Option (ℕ × Held)} (Some x) (Some y) → x ≡ y
-some_pair x y h = cc
-
 from_primary : (o : Option Held) (h : ℕ × Held) → option_map (λ entry. (0, entry)) o ≡ Some h → (o ≡ Some h.1) × (h.0 ≡ 0)
 from_primary None h e = cc
-from_primary (Some held) h e = let same = some_pair (0, held) h e in (ap (λ (p : ℕ × Held). Some p.1) same, sym (ap (λ (p : ℕ × Held). p.0) same))
+from_primary (Some held) h e = let same = some_same (0, held) h e in (ap (λ (p : ℕ × Held). Some p.1) same, sym (ap (λ (p : ℕ × Held). p.0) same))
 
 -- the first holder has its entry, and is the primary or newer
 pub holder_place : (t : Table) (key : Key) (fs : ℕ) (h : ℕ × Held) → first_holder (column t key) (newer t fs) ≡ Some h → (column t key h.0 ≡ Some h.1) × ((h.0 ≡ 0) ⊎ (fs < h.0))
@@ -29,7 +27,7 @@ holder_place t key fs h is = go (list_any (λ id. is_some (column t key id)) (ne
     go : (some : Bool) → list_any (λ id. is_some (column t key id)) (newer t fs) ≡ some → (column t key h.0 ≡ Some h.1) × ((h.0 ≡ 0) ⊎ (fs < h.0))
     go true e =
         let first = holder_above (column t key) fs (map.keys t.filesets) e in
-        let same = some_pair (first.at, first.held) h (sym first.is ∙ is) in
+        let same = some_same (first.at, first.held) h (sym first.is ∙ is) in
         (subst (λ (p : ℕ × Held). column t key p.0 ≡ Some p.1) same first.has, inr (subst (λ (p : ℕ × Held). fs < p.0) same first.more))
     go false e =
         let at = from_primary (column t key 0) h (sym (none_holder (column t key) (newer t fs) e) ∙ is) in
@@ -78,10 +76,6 @@ stands_still t (Some holder) h = unless (is_absent (Some holder.1)) (is_gone t h
     unless true true h = cc
     unless true false h = refl
     unless false b h = cc
-
-and_right : (a b : Bool) → (a && b) ≡ true → b ≡ true
-and_right true b h = h
-and_right false b h = cc
 
 -- the entry that says the same is the one that is needless
 pub needless_says_same : (t : Table) (fs : ℕ) (key : Key) → is_needless t fs key ≡ true → SaysSame t fs key

@@ -14,8 +14,8 @@ use Rattle.ck_model.specs.Rules.{IsOrderly, IsOwn, KeyBelow, HeldBelow, stamp_in
 use Rattle.ck_chain.specs.Kept.{pushed}
 use Rattle.ck_chain.specs.Naming.{block_of, IsNamed}
 use Rattle.ck_chain.specs.Needless.{tidied}
+use Rattle.ck_chain.proofs.Basics.{some_is, some_same}
 use Rattle.ck_chain.proofs.Laws.{last_passes}
-use Rattle.ck_chain.proofs.Orderly.{some_is}
 use Rattle.ck_chain.proofs.Columns.{column-with_entry}
 use Rattle.ck_chain.proofs.TidyLaws.{column-tidied}
 use Rattle.ck_chain.specs.Changes.{key_of, is_deletion, value_after}
@@ -112,9 +112,6 @@ entry_stays t key new lawful fs above some =
       ]
     ]
 
-some_one : (x y : Held) → ◌≡◌ {A = Option Held} (Some x) (Some y) → x ≡ y
-some_one x y h = cc
-
 -- what is pushed is there, also after the tidying
 push_there : (t : Table) (n : ℕ) (key : Key) (new : Option Held) → IsOrderly t → newest_live_of t ≡ Some n → 0 < n → is_covered t n key ≡ false → IfSome new IsOwn → (new ≡ None → IsSome (column t key 0))
     → column (tidied (after t n key new) n key) key n ≡ Some (pushed (keeps_data t n) (column t key 0))
@@ -125,7 +122,7 @@ push_there t n key None is newest above bare own there =
       | inl same ↦ same ∙ pushes
       | inr gone ↦
           let old = some_is (column t key 0) (there refl) in
-          let absent : pushed (keeps_data t n) (Some old.0) ≡ Absent = some_one _ _ (ap (λ o. Some (pushed (keeps_data t n) o)) (sym old.1) ∙ sym pushes ∙ gone.2) in
+          let absent : pushed (keeps_data t n) (Some old.0) ≡ Absent = some_same _ _ (ap (λ o. Some (pushed (keeps_data t n) o)) (sym old.1) ∙ sym pushes ∙ gone.2) in
           absurd (own_pushed (keeps_data t n) old.0 (is.primary key old.0 old.1) absent)
     ]
 push_there t n key (Some new) is newest above bare own there =

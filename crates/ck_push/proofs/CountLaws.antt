@@ -16,6 +16,7 @@ use Rattle.ck_model.specs.Chain.{is_covered, is_gone, is_live, keeps_data, newes
 use Rattle.ck_model.specs.Rules.{IsOrderly, IsOwn, first_holder}
 use Rattle.ck_chain.specs.Kept.{pushed}
 use Rattle.ck_chain.specs.Needless.{is_absent, says_nothing, is_needless, tidied}
+use Rattle.ck_chain.proofs.Basics.{not_first, not_second, or_left}
 use Rattle.ck_chain.proofs.Laws.{each_above, last_passes, live_stands}
 use Rattle.ck_chain.proofs.Counts.{one_of, record_count-with_entry}
 use Rattle.ck_chain.proofs.Orderly.{positive_id}
@@ -58,22 +59,6 @@ own_no_absent (Plain stamp small) own = refl
 own_no_absent (Extent stamp block) own = refl
 own_no_absent (Mark stamp) own = absurd own
 
-and_false : (a b : Bool) → b ≡ false → (a && b) ≡ false
-and_false true b h = h
-and_false false b h = refl
-
-not_said : (b : Bool) → b ≡ false → (a : Bool) → (b && a) ≡ false
-not_said true h a = cc
-not_said false h a = refl
-
-or_left : (a b : Bool) → (a || b) ≡ false → a ≡ false
-or_left true b h = h
-or_left false b h = refl
-
-or_right : (a b : Bool) → (a || b) ≡ false → b ≡ false
-or_right true b h = cc
-or_right false b h = h
-
 no_entry : (o : Option Held) → is_some o ≡ false → is_absent o ≡ false
 no_entry None h = refl
 no_entry (Some held) h = cc
@@ -83,7 +68,7 @@ said_by_gone : (t : Table) (n : ℕ) (key : Key) → IsOrderly t → newest_live
 said_by_gone t n key is newest above some =
     let first = holder_above (column t key) n (map.keys t.filesets) some in
     let gone : is_gone t first.at ≡ true = gone_above t n first.at key is newest above first.more (ap is_some first.has) in
-    ap (says_nothing t) first.is ∙ and_false (is_absent (Some first.held)) (not (is_gone t first.at)) (ap not gone)
+    ap (says_nothing t) first.is ∙ not_second (is_absent (Some first.held)) (not (is_gone t first.at)) (ap not gone)
 
 same_any : (c d : ℕ → Option Held) (ids : List ℕ) → AllByRecursion (λ x. d x ≡ c x) ids → list_any (λ id. is_some (d id)) ids ≡ list_any (λ id. is_some (c id)) ids
 same_any c d [] same = refl
@@ -108,14 +93,14 @@ newer_says : (t : Table) (n : ℕ) (key : Key) (new : Option Held) → IsOrderly
 newer_says t n key new is newest above some =
     let d = column (after t n key new) key in
     ap (λ o. is_absent (d n) && says_nothing t o) (some_holder (column t key) d (newer t n) some (newer_stay t n key new above))
-    ∙ and_false (is_absent (d n)) _ (said_by_gone t n key is newest above some)
+    ∙ not_second (is_absent (d n)) _ (said_by_gone t n key is newest above some)
 
 -- a deletion where the newest checkpoint or a newer one has an entry
 needless_covered : (t : Table) (n : ℕ) (key : Key) → IsOrderly t → newest_live_of t ≡ Some n → 0 < n → is_covered t n key ≡ true → is_needless (after t n key None) n key ≡ absent_goes t key (Some n)
 needless_covered t n key is newest above covered = go (list_any (λ id. is_some (column t key id)) (newer t n)) refl
   where
     go : (some : Bool) → list_any (λ id. is_some (column t key id)) (newer t n) ≡ some → is_needless (after t n key None) n key ≡ absent_goes t key (Some n)
-    go true h = newer_says t n key None is newest above h ∙ sym (and_false (is_absent (column t key n)) _ (ap not h))
+    go true h = newer_says t n key None is newest above h ∙ sym (not_second (is_absent (column t key n)) _ (ap not h))
     go false h =
         ap (λ o. is_absent (column (after t n key None) key n) && says_nothing t o) (primary_next t n key None above h)
         ∙ ap (λ o. is_absent o && true) (covered_stays t n key None covered n above)
@@ -130,8 +115,8 @@ needless_bare t n key is above there bare =
       | None ↦ λ at some. absurd (false≢true some)
       | Some old ↦ λ at some. absent_no (pushed (keeps_data t n) (Some old)) (own_pushed (keeps_data t n) old (is.primary key old at))
     ] refl there in
-    not_said (is_absent (column u key n)) pushes _
-    ∙ sym (not_said (is_absent (column t key n)) (no_entry (column t key n) (or_left (is_some (column t key n)) _ bare)) _)
+    not_first (is_absent (column u key n)) _ pushes
+    ∙ sym (not_first (is_absent (column t key n)) _ (no_entry (column t key n) (or_left (is_some (column t key n)) _ bare)))
 
 -- the newest checkpoint's entry is needless after a deletion exactly where it is an absent that only the primary's made needed
 needless_deleted : (t : Table) (n : ℕ) (key : Key) → IsOrderly t → newest_live_of t ≡ Some n → 0 < n → IsSome (column t key 0) → is_needless (after t n key None) n key ≡ absent_goes t key (Some n)
@@ -149,7 +134,7 @@ needless_set t n key new is newest above own = go (list_any (λ id. is_some (col
     go true h = newer_says t n key (Some new) is newest above h
     go false h =
         ap (λ o. is_absent (column (after t n key (Some new)) key n) && says_nothing t o) (primary_next t n key (Some new) above h)
-        ∙ and_false (is_absent (column (after t n key (Some new)) key n)) _ (not_said (is_absent (Some new)) (own_no_absent new own) _)
+        ∙ not_second (is_absent (column (after t n key (Some new)) key n)) _ (not_first (is_absent (Some new)) _ (own_no_absent new own))
 
 -- a fact for each newest checkpoint that there may be
 pub each_newest : (t : Table) (P : Option ℕ → Type 0) → IsTable t → P None → ((n : ℕ) → newest_live_of t ≡ Some n → 0 < n → P (Some n)) → P (newest_live_of t)

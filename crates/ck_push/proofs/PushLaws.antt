@@ -9,6 +9,7 @@ use Rattle.ck_model.specs.Chain.{is_covered, is_live, keeps_data, newest_live_of
 use Rattle.ck_model.specs.Rules.{IsOrderly, IsOwn, KeyBelow, HeldBelow, stamp_in, block_in}
 use Rattle.ck_chain.specs.Kept.{pushed}
 use Rattle.ck_chain.specs.Naming.{IsNamed}
+use Rattle.ck_chain.proofs.Basics.{some_same}
 use Rattle.ck_chain.proofs.Laws.{last_passes, live_stands}
 use Rattle.ck_chain.proofs.Orderly.{Fits, orderly_with, orderly_without, positive_id, still_stood, written_or_before}
 use Rattle.ck_chain.proofs.Moved.{fits_moved, fits_absent, stamp_pushed, block_pushed, entry_pushed}
@@ -82,9 +83,6 @@ push_fits t key entry lawful is below push =
 abbrev pub Comes : Table → Key → ℕ → Key → Held → Type 0
 Comes t key g q held = (column t q g ≡ Some held) ⊎ (((q ≡ key) × ((old : Held) × ((column t key 0 ≡ Some old) × ((keeps : Bool) × (held ≡ pushed keeps (Some old)))))) ⊎ (held ≡ Absent))
 
-some_held : (x y : Held) → ◌≡◌ {A = Option Held} (Some x) (Some y) → x ≡ y
-some_held x y h = cc
-
 -- the pushed entry is the primary's moved, or an absent
 pushed_comes : (t : Table) (key : Key) (entry : ℕ × Held) (g : ℕ) (q : Key) (held : Held) → IsPush t key entry → q ≡ key → entry.1 ≡ held → Comes t key g q held
 pushed_comes t key entry g q held push at same =
@@ -98,7 +96,7 @@ pub entry_comes : (t : Table) (key : Key) (push : Option (ℕ × Held)) → IfSo
     → column (after_push (with_entry t 0 key None) key push) q g ≡ Some held → Comes t key g q held
 entry_comes t key None facts g q held at = inl (still_stood t 0 key g q held at)
 entry_comes t key (Some entry) facts g q held at = elim (written_or_before (with_entry t 0 key None) entry.0 key (Some entry.1) g q held at) [
-  | inl is ↦ pushed_comes t key entry g q held facts is.1 (some_held entry.1 held is.2)
+  | inl is ↦ pushed_comes t key entry g q held facts is.1 (some_same entry.1 held is.2)
   | inr stood ↦ inl (still_stood t 0 key g q held stood)
 ]
 

@@ -9,6 +9,7 @@ use Rattle.ck_model.specs.Chain.{keeps_data, newest_live_of}
 use Rattle.ck_chain.specs.Changes.{deletions_first, is_deletion, key_of}
 use Rattle.ck_chain.specs.Kept.{pushed}
 use Rattle.ck_chain.specs.Needless.{is_absent}
+use Rattle.ck_chain.proofs.Basics.{and_left, and_right, not_true}
 use Rattle.ck_push.specs.Changed.{push_into, push_of}
 use Rattle.ck_push.specs.Growth.{absent_goes, gain, gains, growth, loss, losses, one_if}
 
@@ -95,16 +96,8 @@ no_losses t (change ∷ changes) h =
     ] h
 
 last_part : (made : List Change) (change : Change) (left : List Change) → deletions_first (made ++ change ∷ left) ≡ true → (is_deletion change || not (list_any is_deletion left)) ≡ true
-last_part [] change left h = both (is_deletion change || not (list_any is_deletion left)) (deletions_first left) h
-  where
-    both : (a b : Bool) → (a && b) ≡ true → a ≡ true
-    both true b h = refl
-    both false b h = h
-last_part (x ∷ made) change left h = last_part made change left (both (is_deletion x || not (list_any is_deletion (made ++ change ∷ left))) (deletions_first (made ++ change ∷ left)) h)
-  where
-    both : (a b : Bool) → (a && b) ≡ true → b ≡ true
-    both true b h = h
-    both false b h = cc
+last_part [] change left h = and_left (is_deletion change || not (list_any is_deletion left)) (deletions_first left) h
+last_part (x ∷ made) change left h = last_part made change left (and_right (is_deletion x || not (list_any is_deletion (made ++ change ∷ left))) (deletions_first (made ++ change ∷ left)) h)
 
 one_at_most : (b : Bool) → one_if b ≤ 1
 one_at_most true = omega arith
@@ -124,16 +117,12 @@ pub room_in_turn : (t u : Table) (made : List Change) (change : Change) (left : 
     → IsCounted t made u → u.filesets ≡ t.filesets → column u (key_of change) ≡ column t (key_of change) → growth u change ≤ spare_count u
 room_in_turn t u made change left fits limit first room counted filesets same = go (is_deletion change) refl
   where
-    unless : (b : Bool) → not b ≡ true → b ≡ false
-    unless true h = cc
-    unless false h = refl
-
     go : (deletes : Bool) → is_deletion change ≡ deletes → growth u change ≤ spare_count u
     go true h = let none = deletion_grows u change h in omega arith
     go false h =
         let part : (is_deletion change || not (list_any is_deletion left)) ≡ true = last_part made change left first in
         let put : not (list_any is_deletion left) ≡ true = sym (ap (λ b. b || not (list_any is_deletion left)) h) ∙ part in
-        let none : losses t left ≡ 0 = no_losses t left (unless (list_any is_deletion left) put) in
+        let none : losses t left ≡ 0 = no_losses t left (not_true (list_any is_deletion left) put) in
         let takes : loss t change ≡ 0 = ap (λ b. one_if b + one_if (b && absent_goes t (key_of change) (newest_live_of t))) h in
         let adds : gain u change ≡ gain t change = gain_stays t u change filesets same in
         let more : gains t (made ++ change ∷ left) ≡ gains t made + (gain t change + gains t left) = gains-append t made (change ∷ left) in
