@@ -1,5 +1,5 @@
 -- Which data blocks a table names, after an entry is written or goes.
-use Rattle.std.proofs.Common.{◌≡◌, ℕ, true, false, cond, ◌⊎◌, inl, inr, Option, Some, None, nat_eq, refl, sym, ap, ◌∙◌, arith}
+use Rattle.std.proofs.Common.{◌≡◌, ◌≢◌, ℕ, true, false, cond, ◌⊎◌, inl, inr, Option, Some, None, nat_eq, refl, sym, ap, ◌∙◌, arith}
 use Rattle.std.proofs.lemmas.Bool.Decides.{nat_tests}
 use Rattle.ck_model.specs.declared.key.Key.{Key}
 use Rattle.ck_model.specs.declared.held.Held.{Held}
@@ -81,3 +81,12 @@ named_before_tidied t f key block named = elim (column-tidied t f key named.0 na
   | inl same ↦ (named.0, (named.1.0, ap block_of same ∙ named.1.1))
   | inr gone ↦ let wrong = sym (ap block_of gone.2) ∙ named.1.1 in absurd (none_some block wrong)
 ]
+
+-- no entry names the block, in other words
+pub unnamed : (t : Table) (block : ℕ) → ((fs : ℕ) (key : Key) (held : Held) → column t key fs ≡ Some held → block_in held ≢ Some block) → IsNamed t block → ⊥
+unnamed t block none named =
+    let one = naming_of (column t named.1.0 named.0) block named.1.1 in
+    none named.0 named.1.0 one.held one.stands one.names
+
+pub no_names : (t : Table) (block : ℕ) → (IsNamed t block → ⊥) → (fs : ℕ) (key : Key) (held : Held) → column t key fs ≡ Some held → block_in held ≢ Some block
+no_names t block free fs key held at names = free (named_entry t fs key held block at names)
