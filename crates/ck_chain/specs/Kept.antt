@@ -1,0 +1,10 @@
+-- What a checkpoint takes over of an entry that a newer fileset gives up.
+use Rattle.std.specs.Prelude.{Bool, Option, Some, None, if◌then◌else◌}
+use Rattle.ck_model.specs.declared.held.Held.{Held}
+use Rattle.ck_model.specs.declared.held.Held.TheVariants.{Absent}
+use Rattle.ck_model.specs.Chain.{as_mark}
+
+-- an absent where there was no entry, and a mark in place of a data block where no data is kept
+abbrev pub pushed : Bool → Option Held → Held
+pushed keeps None = Absent
+pushed keeps (Some held) = if keeps then held else as_mark held

@@ -1,0 +1,4 @@
+pub mod Needless
+pub mod Kept
+pub mod Naming
+pub mod Changes
