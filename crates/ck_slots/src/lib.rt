@@ -1,0 +1,5 @@
+//! The table of a volume in memory, as a `Meta`.
+#![tactic(auto)]
+
+mod search;
+mod slot;
