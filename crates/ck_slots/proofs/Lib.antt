@@ -1,3 +1,4 @@
 pub mod Cutting
 pub mod ArrangedLemmas
 pub mod FollowingLemmas
+pub mod OnceLemmas

@@ -1,5 +1,6 @@
 //! The table of a volume in memory, as a `Meta`.
 #![tactic(auto)]
 
+mod entries;
 mod search;
 mod slot;
