@@ -1,5 +1,5 @@
 -- The entries of a list of slots by their numbers.
-use Rattle.std.proofs.Common.{◌≡◌, ◌≢◌, ℕ, zero, suc, ◌+◌, ◌<◌, ◌≤◌, true, cond, List, [], ◌∷◌, ◌++◌, take, drop, map as list_map, length, get_or, set, nat_eq, refl, sym, ap, ◌∙◌, arith}
+use Rattle.std.proofs.Common.{◌≡◌, ◌≢◌, ℕ, zero, suc, ◌+◌, ◌<◌, ◌≤◌, true, cond, List, [], ◌∷◌, ◌++◌, take, drop, map as list_map, length, get_or, set, nat_eq, T, refl, sym, ap, subst, ◌∙◌, arith}
 use Rattle.std.proofs.lemmas.List.{get_or_default, get_or-map, length-map, map-append, take-map, drop-map, get_or-set_other, get_or-set_same}
 use Rattle.std.proofs.Math.ListN.{get_or-append}
 use Rattle.std.proofs.Math.Seq.{get_or-append_seam}
@@ -8,7 +8,11 @@ use Rattle.std.specs.List.{insert, remove}
 use Rattle.ck_model.specs.declared.key.Key.{Key}
 use Rattle.ck_model.specs.declared.held.Held.{Held}
 use Rattle.ck_slots.specs.declared.slot.Slot.{Slot}
-use Rattle.ck_slots.specs.Arranged.{entry_of, entry_in, arranged, times, no_slot}
+use Rattle.std.specs.FinMap.{is_sorted}
+use Rattle.std.specs.FinMap as map
+use Rattle.ck_model.specs.Key.{entry_cmp, entry_cmp_total, entry_cmp_exact}
+use Rattle.ck_model.proofs.Places.{len_of}
+use Rattle.ck_slots.specs.Arranged.{entry_of, entry_in, arranged, entries_of, times, no_slot}
 use Rattle.ck_slots.proofs.OnceLemmas.{one, one_itself, times_some}
 
 pub length-arranged : (slots : List Slot) (order : List ℕ) → length (arranged slots order) ≡ length order
@@ -74,3 +78,9 @@ arranged-push slots [] slot inside = refl
 arranged-push slots (n ∷ order) slot inside =
     ap (λ s. entry_of s ∷ arranged (slots ++ slot ∷ []) order) (get_or-append slots (slot ∷ []) no_slot n (inside 0 (omega arith)))
     ∙ ap (λ es. entry_in slots n ∷ es) (arranged-push slots order slot (λ at within. inside (suc at) (omega arith)))
+
+pub len-entries_of : (slots : List Slot) (order : List ℕ) → is_sorted entry_cmp (arranged slots order) ≡ true → map.len (entries_of slots order) ≡ length order
+len-entries_of slots order sorted = len_of entry_cmp_total entry_cmp_exact (arranged slots order) sorted ∙ length-arranged slots order
+
+pub entries-entries_of : (slots : List Slot) (order : List ℕ) → is_sorted entry_cmp (arranged slots order) ≡ true → map.entries (entries_of slots order) ≡ arranged slots order
+entries-entries_of slots order sorted = map.entries-from_sorted entry_cmp (arranged slots order) (subst T (sym sorted) tt)

@@ -2,3 +2,4 @@ pub mod Cutting
 pub mod ArrangedLemmas
 pub mod FollowingLemmas
 pub mod OnceLemmas
+pub mod EntryLemmas

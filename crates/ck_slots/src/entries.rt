@@ -1,4 +1,4 @@
-ghost use Rattle.std.specs.Prelude.{◌≡◌, ◌∷◌, [], ◌+◌, ◌≤◌, ◌<◌, ◌⊎◌, true, Some, IsSome, IfOk, IfErr, MatchOption, ◌^◌, ℕ, length, EachIndex, slice_index, slice_set, vec_len, vec_capacity};
+ghost use Rattle.std.specs.Prelude.{◌≡◌, ◌∷◌, [], ◌+◌, ◌≤◌, ◌<◌, ◌⊎◌, true, Some, IsSome, IfOk, IfErr, MatchOption, ◌^◌, ℕ, length, EachIndex, slice_index, slice_get, slice_set, vec_len, vec_capacity};
 ghost use Rattle.std.specs.Option.{option_copied};
 ghost use Rattle.std.specs.FinMap.{is_sorted};
 ghost use Rattle.std.specs.FinMap as map;
@@ -9,7 +9,8 @@ ghost use Rattle.ck_slots.specs.Following.{keys_behind};
 
 use crate::search::{next_key, search};
 use crate::slot::Slot;
-use ck_model::{Held, Key};
+use ck_model::{Held, Key, NoMemory};
+use std::alloc::Global;
 
 /// The entries of a table in slots, with the numbers of the slots in the order of their keys and
 /// the numbers of those that are free again. So a change moves numbers and no entries.
@@ -20,9 +21,10 @@ pub struct Entries {
     pub free: Vec<u32>,
     pub limit: u32,
     ghost sorted: { is_sorted entry_cmp (arranged slots.items order.items) ≡ true },
-    ghost once: { StandOnce (vec_len slots) order.items free.items },
+    ghost once: { StandOnce (length slots.items) order.items free.items },
     ghost whole: { vec_len order + vec_len free ≡ vec_len slots },
     ghost fits: { vec_len slots ≤ limit },
+    ghost small: { limit ≤ 262144 },
     ghost slots_room: { limit ≤ vec_capacity slots },
     ghost order_room: { limit ≤ vec_capacity order },
     ghost free_room: { limit ≤ vec_capacity free },
@@ -37,7 +39,7 @@ fn overwrite(slots: &mut [Slot], number: u32, slot: Slot)
 
 // Into the slot that was freed last, or else into a new one.
 fn store(slots: &mut Vec<Slot>, free: &mut Vec<u32>, slot: Slot) -> u32
-    requires within { EachIndex free.old.items (λ k. slice_index free.old.items k < vec_len slots.old) }
+    requires within { EachIndex free.old.items (λ k. slice_index free.old.items k < length slots.old.items) }
     requires room { (free.old.items ≡ []) → vec_len slots.old < vec_capacity slots.old }
     requires few { vec_len slots.old < 2 ^ 32 }
     ensures stored { IsStored slots.old.items free.old.items slots.new.items free.new.items result slot }
@@ -58,6 +60,34 @@ fn store(slots: &mut Vec<Slot>, free: &mut Vec<u32>, slot: Slot) -> u32
 }
 
 impl Entries {
+    pub fn new(alloc: Global, limit: u32) -> Result<Entries, NoMemory>
+        requires { limit ≤ 262144 }
+        ensures entries { IfOk result (λ s. entries_of s.slots.items s.order.items ≡ map.empty) }
+        ensures limit { IfOk result (λ s. s.limit ≡ limit) }
+    {
+        Ok(Entries {
+            slots: Vec::with_capacity(alloc, limit as usize)?,
+            order: Vec::with_capacity(alloc, limit as usize)?,
+            free: Vec::with_capacity(alloc, limit as usize)?,
+            limit,
+        })
+    }
+
+    pub fn len(&self) -> usize
+        ensures { result ≡ map.len (entries_of self.now.slots.items self.now.order.items) }
+    {
+        self.order.len()
+    }
+
+    /// The entry at this place in the order of filesets and keys.
+    pub fn at(&self, at: usize) -> (u32, Key, Held)
+        requires { at < map.len (entries_of self.now.slots.items self.now.order.items) }
+        ensures { slice_get (map.entries (entries_of self.now.slots.items self.now.order.items)) at ≡ Some ((result.0, result.1), result.2) }
+    {
+        let slot = &self.slots[self.order[at] as usize];
+        (slot.fileset, slot.key, slot.held)
+    }
+
     fn find(&self, fileset: u32, key: &Key) -> Result<usize, usize>
         ensures found { IfOk result (IsFoundAt entry_cmp (fileset, key.now) (arranged self.now.slots.items self.now.order.items)) }
         ensures absent { IfErr result (IsGapAt entry_cmp (fileset, key.now) (arranged self.now.slots.items self.now.order.items)) }

@@ -1,5 +1,8 @@
+use Rattle.std.proofs.Common.{length, get_or}
 use Rattle.ck_slots.proofs.OnceLemmas.{in_range}
 use Rattle.ck_slots.proofs.entries.Entries.next.Goals as goal
 
 pub next_key-requires-clause-within : goal.next_key-requires-clause-within
-next_key-requires-clause-within c = ?
+next_key-requires-clause-within c =
+    let s = c.args.self.now in
+    rw (c.deref-2.ensures.value, c.deref.ensures.value) (in_range (length s.slots.items) s.order.items s.free.items s.once)
