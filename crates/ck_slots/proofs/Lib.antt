@@ -3,3 +3,4 @@ pub mod ArrangedLemmas
 pub mod FollowingLemmas
 pub mod OnceLemmas
 pub mod EntryLemmas
+pub mod IdLemmas

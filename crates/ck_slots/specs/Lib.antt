@@ -1,3 +1,4 @@
 pub mod Arranged
 pub mod Cut
 pub mod Following
+pub mod Recorded

@@ -2,5 +2,6 @@
 #![tactic(auto)]
 
 mod entries;
+mod filesets;
 mod search;
 mod slot;
