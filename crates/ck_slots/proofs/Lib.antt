@@ -4,3 +4,4 @@ pub mod FollowingLemmas
 pub mod OnceLemmas
 pub mod EntryLemmas
 pub mod IdLemmas
+pub mod TableLemmas

@@ -2,3 +2,4 @@ pub mod Arranged
 pub mod Cut
 pub mod Following
 pub mod Recorded
+pub mod Lawful
