@@ -3,3 +3,4 @@ pub mod Cut
 pub mod Following
 pub mod Recorded
 pub mod Lawful
+pub mod Slots

@@ -104,11 +104,12 @@ impl Entries {
         }
     }
 
+    /// The least key after this one at which a fileset holds something.
     pub fn next(&self, fileset: u32, after: Option<&Key>) -> Option<Key>
         ensures { MatchOption result
-            (keys_behind (arranged self.now.slots.items self.now.order.items) fileset (option_copied after.entry) ≡ [])
-            (λ key. keys_behind (arranged self.now.slots.items self.now.order.items) fileset (option_copied after.entry)
-            ≡ key ∷ keys_behind (arranged self.now.slots.items self.now.order.items) fileset (Some key)) }
+            (keys_behind (map.entries (entries_of self.now.slots.items self.now.order.items)) fileset (option_copied after.entry) ≡ [])
+            (λ key. keys_behind (map.entries (entries_of self.now.slots.items self.now.order.items)) fileset (option_copied after.entry)
+            ≡ key ∷ keys_behind (map.entries (entries_of self.now.slots.items self.now.order.items)) fileset (Some key)) }
     {
         next_key(&self.slots, &self.order, fileset, after)
     }

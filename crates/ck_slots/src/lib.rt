@@ -5,3 +5,6 @@ mod entries;
 mod filesets;
 mod search;
 mod slot;
+mod table;
+
+pub use table::Slots;
