@@ -13,7 +13,7 @@ use Rattle.ck_model.specs.declared.checkpoint.Fileset.{Fileset}
 use Rattle.ck_model.specs.declared.checkpoint.Counters.{Counters}
 use Rattle.ck_model.specs.Key.{entry_cmp, entry_cmp_total, entry_cmp_exact}
 use Rattle.ck_model.specs.Held.{IsWord, IsEntry, IsFileset, IsCounters}
-use Rattle.ck_model.specs.Table.{Table, column, with_entry, with_fileset, with_counters, record_count, spare_count, IsTable, IsSized}
+use Rattle.ck_model.specs.Table.{Table, Entries, Filesets, column, written, recorded, with_entry, with_fileset, with_counters, record_count, spare_count, IsTable, IsSized}
 
 equal : (o : Ordering) → is_eq o ≡ true → o ≡ Equal
 equal Less h = cc
@@ -106,3 +106,17 @@ IsSized-with_fileset t id (Some new) sized room =
     let fits : map.len t.filesets + map.len t.entries ≤ t.records = omega (arith, sized.fits) in
     let kept = room_kept (map.get t.filesets id) _ (map.len t.filesets) (map.len t.entries) t.records swapped fits (len-insert nat_cmp_total t.filesets id new) in
     record { blocks = sized.blocks; records = sized.records; fits = omega (arith, kept) }
+
+-- ---- the parts of a changed table
+
+pub entered : (t : Table) (es : Entries) (records fs : ℕ) (key : Key) (w : Option Held) → es ≡ written t.entries fs key w → records ≡ t.records → ◌≡◌ {A = Table} (record { entries = es; filesets = t.filesets; counters = t.counters; blocks = t.blocks; records = records }) (with_entry t fs key w)
+entered t es records fs key w p q i = record { entries = p i; filesets = t.filesets; counters = t.counters; blocks = t.blocks; records = q i }
+
+pub recorded_in : (t : Table) (es : Filesets) (id : ℕ) (w : Option Fileset) → es ≡ recorded t.filesets id w → ◌≡◌ {A = Table} (record { entries = t.entries; filesets = es; counters = t.counters; blocks = t.blocks; records = t.records }) (with_fileset t id w)
+recorded_in t es id w p i = record { entries = t.entries; filesets = p i; counters = t.counters; blocks = t.blocks; records = t.records }
+
+pub as_given : {X : Type 0} (P : X → Type 0) (x : X) → P x → (y : X) → ◌≡◌ {A = Option X} (Some x) (Some y) → P y
+as_given P x h y same = subst (λ z. P z) (some_same x y same) h
+
+pub nothing_given : {X : Type 0} (P : X → Type 0) (y : X) → ◌≡◌ {A = Option X} None (Some y) → P y
+nothing_given P y same = absurd (none_some y same)
