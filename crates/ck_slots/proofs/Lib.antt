@@ -5,3 +5,4 @@ pub mod OnceLemmas
 pub mod EntryLemmas
 pub mod IdLemmas
 pub mod TableLemmas
+pub mod FormattedLemmas

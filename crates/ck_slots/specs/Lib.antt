@@ -4,3 +4,4 @@ pub mod Following
 pub mod Recorded
 pub mod Lawful
 pub mod Slots
+pub mod Formatted
