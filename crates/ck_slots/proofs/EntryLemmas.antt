@@ -39,7 +39,7 @@ module _ (slots : List Slot) (order free : List ℕ) (sorted : is_sorted entry_c
           let inside = in_range (length slots) order free once at within in
           let few = never_twice (length slots) order free once (get_or order at 0) in
           let is : arranged (set slots number new) order ≡ set (arranged slots order) at (entry_of new) =
-              ap (λ n. arranged (set slots n new) order) number_at ∙ arranged-set_once slots order at new within inside few in
+          ap (λ n. arranged (set slots n new) order) number_at ∙ arranged-set_once slots order at new within inside few in
           subst (λ es. Edits entry_cmp es (map.insert (entries_of slots order) key held)) (sym is) (set_found entry_cmp_total entry_cmp_exact key held (arranged slots order) at (entry_of slot) found (sym (read (entry_of slot))) sorted)
 
   pub taken_out : (key : ℕ × Key) (at : ℕ) → IsFoundAt entry_cmp key (arranged slots order) at → Edits entry_cmp (arranged slots (remove order at)) (map.remove (entries_of slots order) key)
@@ -69,7 +69,7 @@ module _ (slots : List Slot) (order free : List ℕ) (sorted : is_sorted entry_c
     put_new gap =
         let key : ℕ × Key = (slot.fileset, slot.key) in
         let is : arranged new_slots (insert order at number) ≡ insert (arranged slots order) at (key, slot.held) =
-            arranged-insert new_slots order at number ∙ ap (λ es. insert es at (entry_in new_slots number)) kept ∙ ap (insert (arranged slots order) at) there in
+        arranged-insert new_slots order at number ∙ ap (λ es. insert es at (entry_in new_slots number)) kept ∙ ap (insert (arranged slots order) at) there in
         subst (λ es. Edits entry_cmp es (map.insert (entries_of slots order) key slot.held)) (sym is) (set_gap entry_cmp_total entry_cmp_exact key slot.held (arranged slots order) at gap sorted)
 
     pub once_put : StandOnce (length new_slots) (insert order at number) new_free

@@ -86,7 +86,7 @@ next_at_front after (x ∷ es) e sorted within is =
       | false ↦ λ p within is.
           let lt : after < x.0 = grind (arith, nat_tests) in
           let all : ids_behind (x ∷ es) after ≡ x.0 ∷ ids_behind (x ∷ es) x.0 =
-              step_in after x es lt ∙ ap (λ ids. x.0 ∷ ids) (later_ids after x.0 es (omega arith) parts.0 ∙ sym (step_out x.0 x es (omega arith))) in
+          step_in after x es lt ∙ ap (λ ids. x.0 ∷ ids) (later_ids after x.0 es (omega arith) parts.0 ∙ sym (step_out x.0 x es (omega arith))) in
           subst (λ (y : ℕ × Fileset). (after < y.0) × (ids_behind (x ∷ es) after ≡ y.0 ∷ ids_behind (x ∷ es) y.0)) is (lt, all)
     ] refl within is
 

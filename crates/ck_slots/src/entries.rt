@@ -132,7 +132,14 @@ impl Entries {
     {
         match self.find(fileset, key) {
             Ok(at) => self.slots[self.order[at] as usize].held = held,
-            Err(at) => self.add(at, Slot { fileset, key: *key, held }),
+            Err(at) => self.add(
+                at,
+                Slot {
+                    fileset,
+                    key: *key,
+                    held,
+                },
+            ),
         }
     }
 

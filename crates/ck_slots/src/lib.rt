@@ -8,3 +8,6 @@ mod slot;
 mod table;
 
 pub use table::Slots;
+
+#[cfg(test)]
+mod tests;

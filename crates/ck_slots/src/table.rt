@@ -21,10 +21,8 @@ pub struct Slots {
     blocks: u32,
     ghost sorted: { is_sorted nat_cmp filesets.items ≡ true },
     ghost room: { entries.limit ≤ vec_capacity filesets },
-    ghost within_limits: { IsTable (table_of entries.slots.items entries.order.items filesets.items counters blocks entries.limit) }
-        by { IsTable-prop (table_of entries.slots.items entries.order.items filesets.items counters blocks entries.limit) },
-    ghost fits: { IsSized (table_of entries.slots.items entries.order.items filesets.items counters blocks entries.limit) }
-        by { IsSized-prop (table_of entries.slots.items entries.order.items filesets.items counters blocks entries.limit) },
+    ghost within_limits: { IsTable (table_of entries.slots.items entries.order.items filesets.items counters blocks entries.limit) } by { IsTable-prop (table_of entries.slots.items entries.order.items filesets.items counters blocks entries.limit) },
+    ghost fits: { IsSized (table_of entries.slots.items entries.order.items filesets.items counters blocks entries.limit) } by { IsSized-prop (table_of entries.slots.items entries.order.items filesets.items counters blocks entries.limit) },
 }
 
 impl Slots {

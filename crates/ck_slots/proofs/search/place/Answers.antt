@@ -21,7 +21,7 @@ loop-low-preserved-then-is_before c =
     let within : middle < length order = omega arith in
     let is = get_or-arranged slots order middle (entry_of no_slot) c.index-slots-order.result within (c.requires.within middle within) c.index-slots-order.is in
     let passes : stands_before c.args.cut.now (get_or (arranged slots order) middle (entry_of no_slot)).0 ≡ true =
-        ap (λ e. stands_before c.args.cut.now e.0) is ∙ sym c.is_before.ensures ∙ c.if-is_before.true in
+    ap (λ e. stands_before c.args.cut.now e.0) is ∙ sym c.is_before.ensures ∙ c.if-is_before.true in
     let inside : middle < length (arranged slots order) = omega (arith, length-arranged slots order) in
     let above = front_above entry_cmp (stands_before c.args.cut.now) (cut_falls c.args.cut.now) (arranged slots order) middle (entry_of no_slot) (subst T (sym c.requires.sorted) tt) inside passes in
     record { above = omega (arith, above); below = c.loop-low.invariant.below; within = c.loop-low.invariant.within }
@@ -34,7 +34,7 @@ loop-low-preserved c =
     let within : middle < length order = omega arith in
     let is = get_or-arranged slots order middle (entry_of no_slot) c.index-slots-order.result within (c.requires.within middle within) c.index-slots-order.is in
     let fails : stands_before c.args.cut.now (get_or (arranged slots order) middle (entry_of no_slot)).0 ≡ false =
-        ap (λ e. stands_before c.args.cut.now e.0) is ∙ sym c.is_before.ensures ∙ c.if-is_before.false in
+    ap (λ e. stands_before c.args.cut.now e.0) is ∙ sym c.is_before.ensures ∙ c.if-is_before.false in
     let inside : middle < length (arranged slots order) = omega (arith, length-arranged slots order) in
     let below = front_below (stands_before c.args.cut.now) (arranged slots order) middle (entry_of no_slot) inside fails in
     record { above = c.loop-low.invariant.above; below = below; within = omega arith }

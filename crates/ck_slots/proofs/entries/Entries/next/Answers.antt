@@ -18,5 +18,5 @@ returns c =
     let s = c.args.self.now in
     let after = option_copied c.args.after in
     let next : MatchOption c.next_key.result (keys_behind (arranged s.slots.items s.order.items) c.args.fileset after ≡ []) (λ key. keys_behind (arranged s.slots.items s.order.items) c.args.fileset after ≡ key ∷ keys_behind (arranged s.slots.items s.order.items) c.args.fileset (Some key)) =
-        rw (c.deref.ensures.value, c.deref-2.ensures.value) at c.next_key.ensures in
+    rw (c.deref.ensures.value, c.deref-2.ensures.value) at c.next_key.ensures in
     subst (λ es. MatchOption c.next_key.result (keys_behind es c.args.fileset after ≡ []) (λ key. keys_behind es c.args.fileset after ≡ key ∷ keys_behind es c.args.fileset (Some key))) (sym (entries-entries_of s.slots.items s.order.items s.sorted)) next
