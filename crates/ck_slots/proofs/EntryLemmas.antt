@@ -1,5 +1,5 @@
 -- An edit of the slots and their order is the edit of the entries.
-use Rattle.std.proofs.Common.{◌≡◌, ℕ, ◌+◌, ◌<◌, ◌≤◌, T, true, List, [], ◌∷◌, ◌++◌, length, length-append, get_or, set, refl, sym, ap, subst, ◌∙◌, arith, ◌⊎◌, inl, inr, Some}
+use Rattle.std.proofs.Common.{◌≡◌, ℕ, ◌+◌, ◌<◌, true, List, [], ◌∷◌, ◌++◌, length, length-append, get_or, set, sym, ap, subst, ◌∙◌, arith, inl, inr, Some}
 use Rattle.std.proofs.lemmas.List.{get_or_default, length-set}
 use Rattle.std.specs.List.{insert, remove}
 use Rattle.std.specs.FinMap.{is_sorted}
@@ -10,7 +10,7 @@ use Rattle.ck_model.specs.Key.{entry_cmp, entry_cmp_total, entry_cmp_exact}
 use Rattle.ck_model.specs.Ordered.{IsFoundAt, IsGapAt, Edits}
 use Rattle.ck_model.proofs.Places.{set_found, set_gap, unset_found, get_found}
 use Rattle.ck_slots.specs.declared.slot.Slot.{Slot}
-use Rattle.ck_slots.specs.Arranged.{arranged, entries_of, entry_of, entry_in, no_slot, times, StandOnce, IsStored}
+use Rattle.ck_slots.specs.Arranged.{arranged, entries_of, entry_of, entry_in, no_slot, StandOnce, IsStored}
 use Rattle.ck_slots.proofs.ArrangedLemmas.{length-arranged, get_or-arranged, arranged-insert, arranged-remove, arranged-set_absent, arranged-set_once, arranged-push, entry_in-set, entry_in-pushed}
 use Rattle.ck_slots.proofs.OnceLemmas.{in_range, never_twice, free_is_apart, free_is_below, once_taken, once_new, once_freed}
 

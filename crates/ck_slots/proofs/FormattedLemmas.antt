@@ -1,29 +1,25 @@
 -- The table of a new volume is within all limits, obeys all rules, and stands for the empty world.
-use Rattle.std.proofs.Common.{◌≡◌, ◌≢◌, ◌⊎◌, ℕ, ◌+◌, ◌<◌, ◌≤◌, Bool, true, false, cond, not, List, [], ◌∷◌, Option, Some, None, IsSome, IfSome, nat_lt, length, filter, map as list_map, nat_eq, refl, sym, ap, subst, ◌∙◌, inl, inr, arith}
+use Rattle.std.proofs.Common.{◌≡◌, ℕ, ◌+◌, ◌<◌, ◌≤◌, Bool, true, false, cond, not, List, [], ◌∷◌, Option, Some, None, IsSome, IfSome, nat_lt, length, filter, map as list_map, refl, sym, ap, subst, ◌∙◌, inl, arith}
 use mathlib.Core.Bool.{false≢true}
 use Rattle.std.specs.declared.cmp.Ordering.{Ordering}
-use Rattle.std.specs.declared.cmp.Ordering.TheVariants.{Less, Equal, Greater}
 use Rattle.std.specs.Ordering.{nat_cmp, is_eq, eq_by_cmp}
-use Rattle.std.specs.Cmp.{nat_cmp_total}
 use Rattle.std.specs.FinMap.{put, get-empty, get-insert, len-empty, len-insert, entries-insert}
 use Rattle.std.specs.FinMap as map
 use Rattle.std.proofs.lemmas.Cmp.{tied_itself}
 use Rattle.std.proofs.lemmas.List.{nil_from_length}
 use Rattle.ck_model.specs.declared.key.Key.{Key}
-use Rattle.ck_model.specs.declared.key.Key.TheVariants.{Name, Node, Block}
+use Rattle.ck_model.specs.declared.key.Key.TheVariants.{Node}
 use Rattle.ck_model.specs.declared.held.Held.{Held}
-use Rattle.ck_model.specs.declared.held.Held.TheVariants.{Absent, Plain, Extent, Mark}
-use Rattle.ck_model.specs.declared.held.Small.TheVariants.{To, File, Dir}
+use Rattle.ck_model.specs.declared.held.Held.TheVariants.{Absent, Mark}
 use Rattle.ck_model.specs.declared.checkpoint.Fileset.{Fileset}
 use Rattle.ck_model.specs.Key.{key_cmp, key_cmp_total, entry_cmp, entry_cmp_total, entry_cmp_exact}
-use Rattle.ck_model.specs.Held.{IsEntry, IsFileset}
-use Rattle.ck_model.specs.Table.{Table, Entries, Filesets, column, newer, record_count, IsTable, IsSized}
-use Rattle.ck_model.specs.Chain.{is_live, live_ids, present, value_at}
-use Rattle.ck_model.specs.Cells.{Cells}
-use Rattle.ck_model.specs.Rules.{stamp_in, block_in, KeyBelow, HeldBelow, IsOwn, IsOrderly, IsSound, IsNeeded}
-use Rattle.ck_model.specs.World.{World, Checkpoint, empty_world, root_cells}
-use Rattle.ck_model.specs.Values.{Store, Values, cells_of, cells_on, cell_on}
-use Rattle.ck_model.specs.Standing.{keys_of, with_value, valued, values_of, checkpoint_on, live_filesets, checkpoints_on, checkpoint_limit, world_on}
+use Rattle.ck_model.specs.Held.{IsEntry}
+use Rattle.ck_model.specs.Table.{Table, Entries, Filesets, column, newer, IsTable, IsSized}
+use Rattle.ck_model.specs.Chain.{is_live, present, value_at}
+use Rattle.ck_model.specs.Rules.{stamp_in, block_in, KeyBelow, HeldBelow, IsOwn, IsOrderly, IsSound}
+use Rattle.ck_model.specs.World.{root_cells}
+use Rattle.ck_model.specs.Values.{Store, cells_of, cells_on}
+use Rattle.ck_model.specs.Standing.{keys_of, with_value, valued, values_of, checkpoint_on, checkpoints_on, checkpoint_limit}
 use Rattle.ck_model.proofs.Places.{from_nothing}
 use Rattle.ck_slots.specs.declared.slot.Slot.{Slot}
 use Rattle.ck_slots.specs.Arranged.{entries_of}

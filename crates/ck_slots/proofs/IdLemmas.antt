@@ -1,19 +1,17 @@
 -- The first of the ids above a number, and the parts that a test of keys makes of a list in order.
-use Rattle.std.proofs.Common.{◌≡◌, ◌≢◌, ℕ, zero, suc, ◌+◌, ◌<◌, ◌≤◌, Bool, true, false, cond, not, T, List, [], ◌∷◌, length, get_or, nat_lt, nat_le, filter, map as list_map, refl, sym, ap, subst, ◌∙◌, arith, inl, inr}
+use Rattle.std.proofs.Common.{◌≡◌, ℕ, zero, suc, ◌<◌, ◌≤◌, Bool, true, false, cond, T, List, [], ◌∷◌, length, get_or, nat_lt, nat_le, refl, sym, ap, subst, ◌∙◌, arith}
 use Rattle.std.specs.declared.cmp.Ordering.{Ordering}
-use Rattle.std.specs.declared.cmp.Ordering.TheVariants.{Less, Equal, Greater}
 use Rattle.std.specs.Ordering.{nat_cmp, is_lt, is_gt}
 use Rattle.std.specs.FinMap.{is_sorted}
 use Rattle.std.specs.FinMap.Entries.{below_all}
 use Rattle.std.specs.List.{AllWithin}
-use Rattle.std.specs.List.Sorted.{IsPartitionedBy, IsPartitionPoint}
-use Rattle.std.proofs.lemmas.Bool.{cases_lt}
+use Rattle.std.specs.List.Sorted.{IsPartitionedBy}
 use Rattle.std.proofs.lemmas.Bool.Decides.{nat_tests}
 use Rattle.ck_model.specs.declared.checkpoint.Fileset.{Fileset}
 use Rattle.ck_model.specs.Ordered.{place_of}
 use Rattle.ck_slots.specs.Cut.{front}
 use Rattle.ck_slots.specs.Recorded.{ids_behind}
-use Rattle.ck_slots.proofs.Cutting.{both_of, less, below_at, Falls}
+use Rattle.ck_slots.proofs.Cutting.{both_of, below_at, Falls}
 
 module _ {K X : Type 0} (R : K → K → Ordering) (test : K → Bool) (falls : Falls R test) where
   at_head : (e : K × X) (es : List (K × X)) (j : ℕ) (d : K × X) → T (is_sorted R (e ∷ es)) → j < suc (length es) → test (get_or (e ∷ es) j d).0 ≡ true → test e.0 ≡ true

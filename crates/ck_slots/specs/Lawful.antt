@@ -8,7 +8,7 @@ use Rattle.ck_model.specs.declared.held.Held.TheVariants.{Absent, Plain, Extent,
 use Rattle.ck_model.specs.declared.held.Small.TheVariants.{To, File, Dir}
 use Rattle.ck_model.specs.declared.checkpoint.Fileset.{Fileset}
 use Rattle.ck_model.specs.declared.checkpoint.Counters.{Counters}
-use Rattle.ck_model.specs.Held.{IsKey, BelongsTo, IsEntry, IsFileset, IsCounters}
+use Rattle.ck_model.specs.Held.{IsKey, BelongsTo}
 use Rattle.ck_model.specs.Table.{Table, IsTable, IsSized}
 use Rattle.ck_slots.specs.declared.slot.Slot.{Slot}
 use Rattle.ck_slots.specs.Arranged.{entries_of}

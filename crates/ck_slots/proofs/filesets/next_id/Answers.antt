@@ -1,11 +1,10 @@
-use Rattle.std.proofs.Common.{◌≡◌, ◌<◌, ◌≤◌, ◌∷◌, ℕ, length, get_or, nat_le, T, true, arith, rules, sym, ap, subst, ◌∙◌}
+use Rattle.std.proofs.Common.{◌≡◌, ◌<◌, ◌∷◌, ℕ, length, get_or, nat_le, T, arith, rules, sym, ap, subst, ◌∙◌}
 use Rattle.std.specs.Ordering.{nat_cmp}
 use Rattle.std.specs.FinMap.{is_sorted}
 use Rattle.std.proofs.lemmas.List.{get_or_default}
 use Rattle.std.proofs.lemmas.List.Sorted.{IsPartitionPoint-from_clause}
 use Rattle.ck_model.specs.declared.checkpoint.Fileset.{Fileset}
 use Rattle.ck_slots.specs.Recorded.{ids_behind}
-use Rattle.ck_slots.specs.Cut.{front}
 use Rattle.ck_slots.proofs.IdLemmas.{partitioned, front_is, upto_falls, next_at_front, none_at_front}
 use Rattle.ck_slots.proofs.filesets.next_id.Goals as goal
 

@@ -1,4 +1,4 @@
-use Rattle.std.proofs.Common.{◌≡◌, ◌<◌, ◌≤◌, ℕ, length, get_or, nat_lt, T, true, [], arith, rules, sym, ap, subst, ◌∙◌}
+use Rattle.std.proofs.Common.{◌≡◌, ◌<◌, ℕ, length, get_or, nat_lt, T, true, [], arith, rules, sym, ap, subst, ◌∙◌}
 use Rattle.std.specs.Ordering.{nat_cmp}
 use Rattle.std.specs.Cmp.{nat_cmp_total}
 use Rattle.std.specs.FinMap.{is_sorted, nat_cmp-IsAntisymmetric}
@@ -6,7 +6,6 @@ use Rattle.std.proofs.lemmas.List.{get_or_default}
 use Rattle.std.proofs.lemmas.List.Sorted.{IsPartitionPoint-from_clause}
 use Rattle.ck_model.specs.declared.checkpoint.Fileset.{Fileset}
 use Rattle.ck_model.specs.declared.checkpoint.Kind.TheVariants.{Nodata}
-use Rattle.ck_model.specs.Ordered.{place_of}
 use Rattle.ck_model.proofs.Places.{find_gap}
 use Rattle.ck_slots.proofs.IdLemmas.{partitioned, front_is, below_falls, place_is}
 use Rattle.ck_slots.proofs.filesets.search.Goals.{else-at-filesets-via-then-at-filesets+else-filesets-at, else-at-filesets-via-else-at-filesets}

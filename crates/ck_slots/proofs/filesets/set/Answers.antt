@@ -1,4 +1,4 @@
-use Rattle.std.proofs.Common.{◌≡◌, sym, ap, subst, IsSome, inl, inr}
+use Rattle.std.proofs.Common.{sym, subst, IsSome, inl, inr}
 use mathlib.Core.Bool.{false≢true}
 use Rattle.std.specs.Cmp.{nat_cmp_total}
 use Rattle.std.specs.FinMap.{nat_cmp-IsAntisymmetric}

@@ -1,10 +1,9 @@
-use Rattle.std.proofs.Common.{◌≡◌, ◌≢◌, ◌<◌, ℕ, length, get_or, T, sym, ap, subst, ◌∙◌, arith}
+use Rattle.std.proofs.Common.{◌≡◌, ◌<◌, ℕ, length, get_or, T, sym, ap, subst, ◌∙◌, arith}
 use Rattle.std.specs.Option.{option_copied}
 use Rattle.ck_model.specs.declared.key.Key.{Key}
 use Rattle.ck_model.specs.declared.held.Held.{Held}
 use Rattle.ck_slots.specs.Arranged.{arranged, entry_of, no_slot}
 use Rattle.ck_slots.specs.Cut.{front, stands_before, cut_behind}
-use Rattle.ck_slots.specs.Following.{keys_behind}
 use Rattle.ck_slots.proofs.ArrangedLemmas.{length-arranged, get_or-arranged}
 use Rattle.ck_slots.proofs.FollowingLemmas.{next_at_cut, none_at_cut}
 use Rattle.ck_slots.proofs.search.next_key.Goals as goal

@@ -1,7 +1,7 @@
-use Rattle.std.proofs.Common.{◌≡◌, ℕ, ◌<◌, ◌≤◌, ◌+◌, ◌-◌, ◌/◌, true, false, length, get_or, T, sym, ap, subst, ◌∙◌, arith}
+use Rattle.std.proofs.Common.{◌≡◌, ◌<◌, ◌+◌, ◌-◌, ◌/◌, true, false, length, get_or, T, sym, ap, subst, ◌∙◌, arith}
 use Rattle.ck_model.specs.Key.{entry_cmp}
-use Rattle.ck_slots.specs.Arranged.{arranged, entry_of, entry_in, no_slot}
-use Rattle.ck_slots.specs.Cut.{front, stands_before}
+use Rattle.ck_slots.specs.Arranged.{arranged, entry_of, no_slot}
+use Rattle.ck_slots.specs.Cut.{stands_before}
 use Rattle.ck_slots.proofs.ArrangedLemmas.{length-arranged, get_or-arranged}
 use Rattle.ck_slots.proofs.Cutting.{front_above, front_below, front_le, cut_falls}
 use Rattle.ck_slots.proofs.search.place.Goals as goal

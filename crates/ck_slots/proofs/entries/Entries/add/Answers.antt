@@ -1,8 +1,8 @@
-use Rattle.std.proofs.Common.{◌≡◌, ℕ, ◌+◌, ◌<◌, ◌^◌, length, arith, ap, sym, subst, cond, true, is_ok, vec_len, vec_capacity, ◌∙◌}
+use Rattle.std.proofs.Common.{◌≡◌, ◌<◌, length, arith, ap, sym, subst, cond, true, is_ok, vec_len, vec_capacity, ◌∙◌}
 use Rattle.std.specs.List.{insert}
-use Rattle.ck_slots.specs.Arranged.{arranged, StandOnce}
+use Rattle.ck_slots.specs.Arranged.{StandOnce}
 use Rattle.ck_slots.proofs.OnceLemmas.{free_in_range}
-use Rattle.ck_slots.proofs.EntryLemmas.{put_new, once_put, length_put}
+use Rattle.ck_slots.proofs.EntryLemmas.{put_new, once_put}
 use Rattle.ck_slots.proofs.entries.Entries.add.Goals as goal
 
 pub store-number-requires-clause-within : goal.store-number-requires-clause-within

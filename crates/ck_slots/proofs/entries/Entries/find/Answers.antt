@@ -1,4 +1,4 @@
-use Rattle.std.proofs.Common.{length, get_or}
+use Rattle.std.proofs.Common.{length}
 use Rattle.ck_slots.proofs.OnceLemmas.{in_range}
 use Rattle.ck_slots.proofs.entries.Entries.find.Goals as goal
 

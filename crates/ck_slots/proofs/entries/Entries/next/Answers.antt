@@ -1,7 +1,5 @@
-use Rattle.std.proofs.Common.{◌≡◌, ◌∷◌, [], List, ℕ, Some, MatchOption, length, get_or, sym, subst}
+use Rattle.std.proofs.Common.{◌≡◌, ◌∷◌, [], Some, MatchOption, length, sym, subst}
 use Rattle.std.specs.Option.{option_copied}
-use Rattle.ck_model.specs.declared.key.Key.{Key}
-use Rattle.ck_model.specs.declared.held.Held.{Held}
 use Rattle.ck_slots.specs.Arranged.{arranged}
 use Rattle.ck_slots.specs.Following.{keys_behind}
 use Rattle.ck_slots.proofs.ArrangedLemmas.{entries-entries_of}

@@ -1,4 +1,4 @@
-use Rattle.std.proofs.Common.{◌≡◌, ℕ, ◌<◌, length, get_or, arith, ap, sym, ◌∙◌, subst, inl, inr, IsSome, false, true}
+use Rattle.std.proofs.Common.{arith, sym, subst, inl, inr, IsSome}
 use mathlib.Core.Bool.{false≢true}
 use Rattle.std.proofs.lemmas.List.{length-set}
 use Rattle.ck_model.specs.Key.{entry_cmp_total, entry_cmp_exact}

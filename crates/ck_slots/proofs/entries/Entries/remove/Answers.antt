@@ -1,4 +1,4 @@
-use Rattle.std.proofs.Common.{◌≡◌, ℕ, ◌<◌, length, get_or, arith, ap, sym, ◌∙◌, subst}
+use Rattle.std.proofs.Common.{length, sym, subst}
 use Rattle.std.specs.List.{remove}
 use Rattle.ck_model.specs.Key.{entry_cmp_total, entry_cmp_exact}
 use Rattle.ck_model.proofs.Places.{unset_gap}

@@ -1,17 +1,11 @@
-use Rattle.std.proofs.Common.{◌≡◌, ◌<◌, List, [], ap, sym, subst, ◌∙◌, inr, arith}
-use Rattle.std.specs.Ordering.{nat_cmp}
+use Rattle.std.proofs.Common.{ap, sym, subst, ◌∙◌, inr, arith}
 use Rattle.std.specs.FinMap.{len-empty}
 use Rattle.std.specs.FinMap as map
-use Rattle.ck_model.specs.declared.key.Key.TheVariants.{Node}
 use Rattle.ck_model.specs.declared.held.Held.{Held}
 use Rattle.ck_model.specs.Key.{entry_cmp}
 use Rattle.ck_model.specs.Table.{IsTable, IsSized}
 use Rattle.ck_model.specs.Rules.{IsSound}
-use Rattle.ck_model.proofs.Places.{from_nothing}
-use Rattle.ck_slots.specs.Arranged.{entries_of}
-use Rattle.ck_slots.specs.Lawful.{table_of}
-use Rattle.ck_slots.specs.Recorded.{filesets_of}
-use Rattle.ck_slots.specs.Formatted.{root, formatted_table, StandsForEmpty}
+use Rattle.ck_slots.specs.Formatted.{StandsForEmpty}
 use Rattle.ck_slots.proofs.ArrangedLemmas.{len-entries_of}
 use Rattle.ck_slots.proofs.FormattedLemmas.{table_of-root, IsTable-formatted, IsSized-formatted, IsSound-formatted, world_on-formatted}
 use Rattle.ck_slots.proofs.table.Slots.formatted.Goals as goal

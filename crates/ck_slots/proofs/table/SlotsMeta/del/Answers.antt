@@ -1,7 +1,7 @@
-use Rattle.std.proofs.Common.{◌≡◌, None, sym, subst, false, true}
+use Rattle.std.proofs.Common.{None, sym, subst}
 use mathlib.Core.Bool.{false≢true}
 use Rattle.ck_model.specs.Held.{IsEntry}
-use Rattle.ck_model.specs.Table.{with_entry, IsTable, IsSized}
+use Rattle.ck_model.specs.Table.{IsTable, IsSized}
 use Rattle.ck_slots.specs.Slots.{table_in}
 use Rattle.ck_slots.specs.Arranged.{entries_of}
 use Rattle.ck_slots.proofs.TableLemmas.{IsTable-with_entry, IsSized-with_entry, entered, nothing_given}

@@ -1,7 +1,7 @@
-use Rattle.std.proofs.Common.{◌≡◌, None, sym, subst, false, true}
+use Rattle.std.proofs.Common.{None, sym, subst}
 use mathlib.Core.Bool.{false≢true}
 use Rattle.ck_model.specs.Held.{IsFileset}
-use Rattle.ck_model.specs.Table.{with_fileset, IsTable, IsSized}
+use Rattle.ck_model.specs.Table.{IsTable, IsSized}
 use Rattle.ck_slots.specs.Slots.{table_in}
 use Rattle.ck_slots.specs.Recorded.{filesets_of}
 use Rattle.ck_slots.proofs.TableLemmas.{IsTable-with_fileset, IsSized-with_fileset, recorded_in, nothing_given}

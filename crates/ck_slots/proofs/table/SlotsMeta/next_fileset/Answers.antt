@@ -1,4 +1,4 @@
-use Rattle.std.proofs.Common.{◌≡◌, ◌∷◌, [], ℕ, List, MatchOption, filter, nat_lt, sym, subst, ap}
+use Rattle.std.proofs.Common.{◌≡◌, ◌∷◌, [], ℕ, List, MatchOption, filter, nat_lt, sym, subst}
 use Rattle.std.specs.Cmp.{nat_cmp_total}
 use Rattle.std.specs.FinMap.{nat_cmp-IsAntisymmetric}
 use Rattle.ck_model.proofs.Places.{keys_are}

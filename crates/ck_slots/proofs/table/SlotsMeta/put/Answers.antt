@@ -1,6 +1,6 @@
-use Rattle.std.proofs.Common.{◌≡◌, ◌<◌, Some, inl, inr, arith, sym, subst}
+use Rattle.std.proofs.Common.{Some, inl, inr, arith, sym, subst}
 use Rattle.ck_model.specs.Held.{IsEntry}
-use Rattle.ck_model.specs.Table.{with_entry, IsTable, IsSized}
+use Rattle.ck_model.specs.Table.{IsTable, IsSized}
 use Rattle.ck_slots.specs.Slots.{table_in}
 use Rattle.ck_slots.specs.Arranged.{entries_of}
 use Rattle.ck_slots.proofs.ArrangedLemmas.{len-entries_of}

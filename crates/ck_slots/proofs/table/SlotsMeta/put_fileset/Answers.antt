@@ -1,8 +1,8 @@
-use Rattle.std.proofs.Common.{◌≡◌, ◌<◌, Some, inl, inr, arith, sym, subst}
+use Rattle.std.proofs.Common.{Some, inl, inr, arith, sym, subst}
 use Rattle.std.specs.Cmp.{nat_cmp_total}
 use Rattle.std.specs.FinMap.{nat_cmp-IsAntisymmetric}
 use Rattle.ck_model.specs.Held.{IsFileset}
-use Rattle.ck_model.specs.Table.{with_fileset, IsTable, IsSized}
+use Rattle.ck_model.specs.Table.{IsTable, IsSized}
 use Rattle.ck_model.proofs.Places.{len_of}
 use Rattle.ck_slots.specs.Slots.{table_in}
 use Rattle.ck_slots.specs.Recorded.{filesets_of}
