@@ -13,6 +13,8 @@ pub mod Space
 pub mod Table
 pub mod Chain
 pub mod Rules
+pub mod Values
+pub mod Standing
 pub mod Streams
 pub mod Changing
 pub mod Freezing

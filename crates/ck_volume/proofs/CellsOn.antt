@@ -5,7 +5,7 @@ use Rattle.std.specs.FinMap as map
 use Rattle.ck_model.specs.declared.key.Key.{Key}
 use Rattle.ck_model.specs.Key.{key_cmp_total}
 use Rattle.ck_model.proofs.CellsLemmas.{find-values}
-use Rattle.ck_volume.specs.Values.{Store, Values, cell_on, cells_of, cells_on}
+use Rattle.ck_model.specs.Values.{Store, Values, cell_on, cells_of, cells_on}
 
 pub get-cells_on : (store : Store) (values : Values) (q : Key) → map.get (cells_on store values) q ≡ option_map (cell_on store) (map.get values q)
 get-cells_on store values q =

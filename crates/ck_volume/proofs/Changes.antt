@@ -10,7 +10,8 @@ use Rattle.ck_model.specs.World.{World}
 use Rattle.ck_model.specs.Space.{held, records_in, fits, no_space, new_block_count}
 use Rattle.ck_model.specs.Step.{changing}
 use Rattle.ck_volume.specs.declared.table.Table.{Table}
-use Rattle.ck_volume.specs.Values.{Store, cells_of, cells_on, StampsBelow, Apart, AllStamped}
+use Rattle.ck_model.specs.Values.{Store, cells_of, cells_on}
+use Rattle.ck_volume.specs.Values.{StampsBelow, Apart, AllStamped}
 use Rattle.ck_volume.specs.Growth.{record_growths, new_blocks}
 use Rattle.ck_volume.specs.Keeping.{frozen_values}
 use Rattle.ck_volume.specs.Standing.{checkpoint_on, world_on}

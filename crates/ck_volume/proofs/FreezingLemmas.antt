@@ -21,7 +21,7 @@ use Rattle.ck_model.proofs.Differences.{len-shown_differences}
 use Rattle.ck_model.proofs.Sizes.{len_same_keys, contains_key-retain_keys}
 use Rattle.ck_volume.specs.declared.frozen.Frozen.{Frozen}
 use Rattle.ck_volume.specs.declared.table.Table.{Table}
-use Rattle.ck_volume.specs.Values.{Store, Values, cells_on}
+use Rattle.ck_model.specs.Values.{Store, Values, cells_on}
 use Rattle.ck_volume.specs.Growth.{records_held}
 use Rattle.ck_volume.specs.Keeping.{frozen_values, frozen_on, IsCounted, IsKept, SharesWith}
 use Rattle.ck_volume.specs.Standing.{checkpoint_on, world_on}

@@ -20,7 +20,8 @@ use Rattle.ck_model.specs.Cells.{differs}
 use Rattle.ck_model.specs.Space.{block_count, own_block_count}
 use Rattle.ck_model.proofs.CellsLemmas.{tied-is, get-retain_keys}
 use Rattle.ck_model.proofs.Sizes.{len_same_keys, contains_key-retain_keys}
-use Rattle.ck_volume.specs.Values.{Store, Values, block_of, cells_on, values_differ, AtBlocks, IsShared, NamesNot}
+use Rattle.ck_model.specs.Values.{Store, Values, cells_on}
+use Rattle.ck_volume.specs.Values.{block_of, values_differ, AtBlocks, IsShared, NamesNot}
 use Rattle.ck_volume.specs.Growth.{blocks_held}
 use Rattle.ck_volume.specs.Keeping.{frozen_on, SharesWith}
 use Rattle.ck_volume.specs.Naming.{names_block, is_named_in, is_named_by_frozen, is_named, IsUnused}

@@ -11,7 +11,7 @@ use Rattle.ck_model.specs.Walk.{file_at}
 use Rattle.ck_model.proofs.RefusalsLemmas.{OrOrdinary}
 use Rattle.ck_model.proofs.WalkLemmas.{file_at-ordinary}
 use Rattle.ck_model.proofs.StepLemmas.{step-sound}
-use Rattle.ck_volume.specs.Values.{Store, Values, cells_on}
+use Rattle.ck_model.specs.Values.{Store, Values, cells_on}
 use Rattle.ck_volume.specs.Room.{answered_with}
 
 abbrev pub no_store : Store

@@ -12,7 +12,8 @@ use Rattle.ck_model.specs.Key.{key_cmp, key_cmp_total, key_cmp_exact, is_block}
 use Rattle.ck_model.specs.Cells.{Cells, differs, with_cells}
 use Rattle.ck_model.specs.Space.{new_block_count, is_new_block}
 use Rattle.ck_model.proofs.CellsLemmas.{find-values, get-with_cells, get-retain_keys}
-use Rattle.ck_volume.specs.Values.{Store, Values, cell_on, cells_of, cells_on, stamp_of, values_differ, with_values, StampsBelow, Apart, AllStamped}
+use Rattle.ck_model.specs.Values.{Store, Values, cell_on, cells_of, cells_on}
+use Rattle.ck_volume.specs.Values.{stamp_of, values_differ, with_values, StampsBelow, Apart, AllStamped}
 use Rattle.ck_volume.specs.Keeping.{frozen_on}
 use Rattle.ck_volume.specs.Growth.{blocks_held, records_held, record_growth, block_growth, record_growths, block_growths, new_blocks}
 use Rattle.ck_volume.proofs.CellsOn.{get-cells_on}

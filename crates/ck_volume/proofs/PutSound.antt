@@ -11,7 +11,8 @@ use Rattle.ck_model.specs.declared.checkpoint.Counters.{Counters}
 use Rattle.ck_model.specs.declared.checkpoint.Limits.{Limits}
 use Rattle.ck_model.specs.Key.{key_cmp, is_block}
 use Rattle.ck_model.proofs.CellsLemmas.{tied-is}
-use Rattle.ck_volume.specs.Values.{Values, stamp_of, block_of, values_differ, with_values, StampsBelow, IsShared, Apart, AllStamped, PlacedBelow}
+use Rattle.ck_model.specs.Values.{Values}
+use Rattle.ck_volume.specs.Values.{stamp_of, block_of, values_differ, with_values, StampsBelow, IsShared, Apart, AllStamped, PlacedBelow}
 use Rattle.ck_volume.specs.Growth.{blocks_held, records_held, record_growths, block_growths}
 use Rattle.ck_volume.specs.Keeping.{frozen_on, IsCounted, IsKept, SharesWith}
 use Rattle.ck_volume.proofs.GrowthLemmas.{get-put}

@@ -8,7 +8,8 @@ use Rattle.ck_model.specs.declared.held.Held.{Held}
 use Rattle.ck_model.specs.Key.{key_cmp, key_cmp_total, key_cmp_exact}
 use Rattle.ck_model.specs.Ordered.{Edits}
 use Rattle.ck_model.proofs.Places.{len_of}
-use Rattle.ck_volume.specs.Values.{Values, with_values}
+use Rattle.ck_model.specs.Values.{Values}
+use Rattle.ck_volume.specs.Values.{with_values}
 
 -- before the first is put
 pub puts_none : (es : List (Key × Held)) (puts : List (Key × Held)) (at : ℕ) → at ≡ length puts → is_sorted key_cmp es ≡ true → Edits key_cmp es (with_values (map.from_sorted es) (drop at puts))

@@ -13,7 +13,8 @@ use Rattle.ck_model.specs.declared.held.Held.TheVariants.{Absent, Plain, Extent,
 use Rattle.ck_model.specs.declared.held.Small.TheVariants as small
 use Rattle.ck_model.specs.Cells.{content_at, bytes_in}
 use Rattle.ck_model.specs.Reading.{file_byte}
-use Rattle.ck_volume.specs.Values.{Store, Values, block_of, cells_on}
+use Rattle.ck_model.specs.Values.{Store, Values, cells_on}
+use Rattle.ck_volume.specs.Values.{block_of}
 use Rattle.ck_volume.specs.Device.{store_on}
 use Rattle.ck_volume.specs.Reading.{bytes_of, part_of, IsFilled, OnlyReads}
 use Rattle.ck_volume.proofs.Walking.{content_on, content-cells_on}

@@ -17,7 +17,8 @@ use Rattle.ck_model.specs.Changes.{cell_of}
 use Rattle.ck_model.specs.Space.{block_count}
 use Rattle.ck_model.specs.World.{root_cells}
 use Rattle.ck_model.proofs.CellsLemmas.{get-retain_keys}
-use Rattle.ck_volume.specs.Values.{Store, Values, cell_on, cells_on, with_values, StampsBelow}
+use Rattle.ck_model.specs.Values.{Store, Values, cell_on, cells_on}
+use Rattle.ck_volume.specs.Values.{with_values, StampsBelow}
 use Rattle.ck_volume.specs.Growth.{block_growths, record_growths}
 use Rattle.ck_volume.specs.Keeping.{IsCounted, IsKept}
 use Rattle.ck_volume.proofs.CellsOn.{get-cells_on}

@@ -7,7 +7,7 @@ use Rattle.ck_model.specs.declared.cell.Cell.{Cell}
 use Rattle.ck_model.specs.declared.held.Held.{Held}
 use Rattle.ck_model.specs.declared.held.Held.TheVariants.{Absent, Plain, Extent, Mark}
 use Rattle.ck_model.specs.Cells.{Content, named_node, is_directory, size_in, content_at}
-use Rattle.ck_volume.specs.Values.{Store, Values, cell_on, cells_on, payload_of}
+use Rattle.ck_model.specs.Values.{Store, Values, cell_on, cells_on, payload_of}
 use Rattle.ck_volume.specs.Walking.{small_in}
 use Rattle.ck_volume.proofs.CellsOn.{get-cells_on}
 

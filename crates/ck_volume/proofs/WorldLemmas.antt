@@ -6,7 +6,7 @@ use Rattle.ck_model.specs.World.{World, without_checkpoint}
 use Rattle.ck_model.specs.Space.{held, records_in, pick, fits, given_up, without_picks, no_space}
 use Rattle.ck_model.specs.Step.{Outcome, with_room}
 use Rattle.ck_volume.specs.declared.frozen.Frozen.{Frozen}
-use Rattle.ck_volume.specs.Values.{Store}
+use Rattle.ck_model.specs.Values.{Store}
 use Rattle.ck_volume.specs.Growth.{blocks_held, records_held}
 use Rattle.ck_volume.specs.Keeping.{frozen_values, frozen_on}
 use Rattle.ck_volume.specs.Standing.{checkpoint_on}

@@ -21,7 +21,8 @@ use Rattle.ck_model.specs.Step.{changing}
 use Rattle.ck_model.specs.World.{World}
 use Rattle.ck_volume.specs.declared.frozen.Frozen.{Frozen}
 use Rattle.ck_volume.specs.declared.table.Table.{Table}
-use Rattle.ck_volume.specs.Values.{Store, Values, cell_on, cells_of, cells_on, block_of, values_differ, NamesNot, Apart, AllStamped, PlacedBelow}
+use Rattle.ck_model.specs.Values.{Store, Values, cell_on, cells_of, cells_on}
+use Rattle.ck_volume.specs.Values.{block_of, values_differ, NamesNot, Apart, AllStamped, PlacedBelow}
 use Rattle.ck_volume.specs.Growth.{record_growths, block_growth, block_growths, new_blocks}
 use Rattle.ck_volume.specs.Putting.{HasPut}
 use Rattle.ck_volume.specs.Room.{has_room, lack_of_room, answered_with}

@@ -7,7 +7,8 @@ use Rattle.ck_model.specs.declared.held.Held.{Held}
 use Rattle.ck_model.specs.Key.{is_block}
 use Rattle.ck_model.specs.Cells.{Cells, differences}
 use Rattle.ck_model.specs.Space.{block_count, own_block_count}
-use Rattle.ck_volume.specs.Values.{Values, values_differ}
+use Rattle.ck_model.specs.Values.{Values}
+use Rattle.ck_volume.specs.Values.{values_differ}
 
 -- the data blocks: those of the primary map, and those of the frozen one that the primary lacks or has in another version
 abbrev pub blocks_held : Cells → Option Cells → ℕ

@@ -4,7 +4,8 @@ use Rattle.std.specs.Option.{option_map, ForSome}
 use Rattle.ck_model.specs.declared.checkpoint.Counters.{Counters}
 use Rattle.ck_model.specs.declared.checkpoint.Limits.{Limits}
 use Rattle.ck_model.specs.Cells.{Cells}
-use Rattle.ck_volume.specs.Values.{Store, Values, cells_on, StampsBelow, BlocksBelow, AtBlocks, IsShared}
+use Rattle.ck_model.specs.Values.{Store, Values, cells_on}
+use Rattle.ck_volume.specs.Values.{StampsBelow, BlocksBelow, AtBlocks, IsShared}
 use Rattle.ck_volume.specs.Growth.{blocks_held, records_held}
 use Rattle.ck_volume.specs.declared.frozen.Frozen.{Frozen}
 

@@ -5,7 +5,8 @@ use Rattle.std.specs.List.{list_any}
 use Rattle.std.specs.FinMap as map
 use Rattle.ck_model.specs.declared.key.Key.{Key}
 use Rattle.ck_model.specs.declared.held.Held.{Held}
-use Rattle.ck_volume.specs.Values.{Values, block_of, NamesNot}
+use Rattle.ck_model.specs.Values.{Values}
+use Rattle.ck_volume.specs.Values.{block_of, NamesNot}
 
 -- the value names this data block
 abbrev pub names_block : ℕ → Held → Bool

@@ -5,7 +5,7 @@ use Rattle.std.specs.Option.{option_map_or}
 use Rattle.ck_disk.specs.Disk.{Meaning, Step, Within, Rose, KeepsClean}
 use Rattle.ck_volume.specs.declared.fault.Fault.{Fault}
 use Rattle.ck_volume.specs.declared.fault.Fault.TheVariants.{ReadFault, WriteFault, NoMemory}
-use Rattle.ck_volume.specs.Values.{Store}
+use Rattle.ck_model.specs.Values.{Store}
 
 -- the bytes of a data block, none where none is named
 abbrev pub bytes_of : Store → Option ℕ → List ℕ

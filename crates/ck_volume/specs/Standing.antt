@@ -3,7 +3,7 @@ use Rattle.std.specs.Prelude.{false, [], ◌∷◌}
 use Rattle.std.specs.Option.{option_map_or}
 use Rattle.ck_model.specs.declared.checkpoint.Kind.TheVariants.{Keeping}
 use Rattle.ck_model.specs.World.{World, Checkpoint}
-use Rattle.ck_volume.specs.Values.{Store, cells_on}
+use Rattle.ck_model.specs.Values.{Store, cells_on}
 use Rattle.ck_volume.specs.declared.frozen.Frozen.{Frozen}
 use Rattle.ck_volume.specs.declared.table.Table.{Table}
 

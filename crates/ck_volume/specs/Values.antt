@@ -1,44 +1,12 @@
--- Maps from keys to what is held there, and the cells that they stand for over the data blocks of a device.
-use Rattle.std.specs.Prelude.{◌≡◌, ◌<◌, ◌≢◌, ⊤, ℕ, Bool, true, false, not, List, [], ◌∷◌, Option, Some, None, nat_eq, map as list_map}
+-- What holds of the values that maps from keys have.
+use Rattle.std.specs.Prelude.{◌≡◌, ◌<◌, ◌≢◌, ⊤, ℕ, Bool, true, false, not, List, [], ◌∷◌, Option, Some, None, nat_eq}
 use Rattle.std.specs.Option.{ForSome}
 use Rattle.std.specs.FinMap as map
 use Rattle.ck_model.specs.declared.key.Key.{Key}
-use Rattle.ck_model.specs.declared.cell.Cell.{Cell}
-use Rattle.ck_model.specs.declared.cell.Payload.{Payload}
-use Rattle.ck_model.specs.declared.cell.Payload.TheVariants as payload
 use Rattle.ck_model.specs.declared.held.Held.{Held}
 use Rattle.ck_model.specs.declared.held.Held.TheVariants.{Absent, Plain, Extent, Mark}
-use Rattle.ck_model.specs.declared.held.Small.{Small}
-use Rattle.ck_model.specs.declared.held.Small.TheVariants as small
 use Rattle.ck_model.specs.Key.{key_cmp, is_block}
-use Rattle.ck_model.specs.Cells.{Cells}
-
--- what the data blocks of a device hold, by their numbers
-abbrev pub Store : Type 0
-Store = ℕ → List ℕ
-
--- no absent stands in such a map
-abbrev pub Values : Type 0
-Values = map.FinMap key_cmp Held
-
-abbrev pub payload_of : Small → Payload
-payload_of (small.To node) = payload.To node
-payload_of (small.File size) = payload.File size
-payload_of small.Dir = payload.Dir
-
--- the cell that a value stands for
-abbrev pub cell_on : Store → Held → Cell
-cell_on store Absent = record { stamp = 0; payload = None }
-cell_on store (Plain stamp value) = record { stamp = stamp; payload = Some (payload_of value) }
-cell_on store (Extent stamp block) = record { stamp = stamp; payload = Some (payload.Bytes (store block)) }
-cell_on store (Mark stamp) = record { stamp = stamp; payload = None }
-
--- these values over these data blocks
-abbrev pub cells_of : Store → List (Key × Held) → List (Key × Cell)
-cells_of store values = list_map (λ e. (e.0, cell_on store e.1)) values
-
-abbrev pub cells_on : Store → Values → Cells
-cells_on store values = map.from_entries (cells_of store (map.entries values))
+use Rattle.ck_model.specs.Values.{Values}
 
 abbrev pub stamp_of : Held → ℕ
 stamp_of Absent = 0

@@ -9,7 +9,7 @@ use Rattle.ck_model.specs.declared.held.Held.TheVariants.{Plain, Extent}
 use Rattle.ck_model.specs.declared.held.Small.TheVariants.{File}
 use Rattle.ck_volume.specs.declared.fault.Fault.{Fault}
 use Rattle.ck_volume.specs.declared.fault.Fault.TheVariants.{ReadFault, WriteFault, NoMemory}
-use Rattle.ck_volume.specs.Values.{Store}
+use Rattle.ck_model.specs.Values.{Store}
 
 -- a block with these bytes at a place
 abbrev pub patched : List ℕ → ℕ → List ℕ → List ℕ

@@ -1,7 +1,7 @@
 ghost use Rattle.std.specs.Prelude.{◌≡◌, ◌-◌, ◌<◌, ◌^◌, false, Some, None, IfOk, OnErr};
 ghost use Rattle.ck_model.specs.Freezing.{new_id, frozen_world};
 ghost use Rattle.ck_model.specs.Step.{created};
-ghost use Rattle.ck_volume.specs.Values.{Store};
+ghost use Rattle.ck_model.specs.Values.{Store};
 ghost use Rattle.ck_volume.specs.Standing.{world_on};
 ghost use Rattle.ck_volume.specs.Room.{answered_with};
 

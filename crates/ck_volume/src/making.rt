@@ -5,7 +5,7 @@ ghost use Rattle.ck_model.specs.declared.cell.Payload.TheVariants as payload;
 ghost use Rattle.ck_model.specs.Key.{key_cmp, is_block};
 ghost use Rattle.ck_model.specs.Changing.{made};
 ghost use Rattle.ck_model.specs.Step.{changing};
-ghost use Rattle.ck_volume.specs.Values.{Store};
+ghost use Rattle.ck_model.specs.Values.{Store};
 ghost use Rattle.ck_volume.specs.Standing.{world_on};
 ghost use Rattle.ck_volume.specs.Room.{answered_with};
 ghost use Rattle.ck_volume.specs.Making.{with_file};

@@ -4,7 +4,8 @@ ghost use Rattle.ck_model.specs.World.{is_named};
 ghost use Rattle.ck_model.specs.Freezing.{mounted, mounted_checkpoint};
 ghost use Rattle.ck_model.specs.History.{is_fault};
 ghost use Rattle.ck_model.specs.Step.{done};
-ghost use Rattle.ck_volume.specs.Values.{Store, BlocksBelow};
+ghost use Rattle.ck_model.specs.Values.{Store};
+ghost use Rattle.ck_volume.specs.Values.{BlocksBelow};
 ghost use Rattle.ck_volume.specs.Standing.{checkpoint_on, world_on};
 ghost use Rattle.ck_volume.specs.Room.{answered_with};
 

@@ -1,5 +1,6 @@
 ghost use Rattle.std.specs.Prelude.{◌≡◌, ◌+◌, ◌≤◌, ◌<◌, ◌^◌, Ok, IfOk, OnOk, OnErr, length};
-ghost use Rattle.ck_volume.specs.Values.{Store, Apart, AllStamped, PlacedBelow};
+ghost use Rattle.ck_model.specs.Values.{Store};
+ghost use Rattle.ck_volume.specs.Values.{Apart, AllStamped, PlacedBelow};
 ghost use Rattle.ck_volume.specs.Growth.{record_growths, block_growths};
 ghost use Rattle.ck_volume.specs.Keeping.{frozen_values};
 ghost use Rattle.ck_volume.specs.Putting.{HasPut};

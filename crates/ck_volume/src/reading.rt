@@ -2,7 +2,8 @@ ghost use Rattle.std.specs.Prelude.{◌≡◌, ◌+◌, ◌≤◌, ◌<◌, ◌+
 ghost use Rattle.std.specs.Option.{ForSome, option_and_then};
 ghost use Rattle.ck_model.specs.Changing.{file_limit};
 ghost use Rattle.ck_model.specs.Reading.{file_range};
-ghost use Rattle.ck_volume.specs.Values.{BlocksBelow, block_of, cells_on};
+ghost use Rattle.ck_model.specs.Values.{cells_on};
+ghost use Rattle.ck_volume.specs.Values.{BlocksBelow, block_of};
 ghost use Rattle.ck_volume.specs.Device.{store_on};
 ghost use Rattle.ck_volume.specs.Reading.{bytes_of, part_of, IsFilled, OnlyReads, IsReadingFault};
 

@@ -21,7 +21,7 @@ impl Model for ValueMap {
     ghost use Rattle.std.specs.FinMap as map;
     ghost use Rattle.std.specs.FinMap.{is_sorted};
     ghost use Rattle.ck_model.specs.Key.{key_cmp};
-    ghost use Rattle.ck_volume.specs.Values.{Values};
+    ghost use Rattle.ck_model.specs.Values.{Values};
     ghost use Rattle.ck_model.specs.contracts.key.Key as key_row;
     ghost use Rattle.ck_model.specs.contracts.held.Held as held_row;
 

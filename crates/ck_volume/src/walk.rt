@@ -4,7 +4,7 @@ ghost use Rattle.std.specs.FinMap as map;
 ghost use Rattle.ck_model.specs.Cells.{content_at, named_node, is_directory, size_in, is_directory_at, size_at};
 ghost use Rattle.ck_model.specs.History.{is_fault};
 ghost use Rattle.ck_model.specs.Walk.{entered, walk, node_at, file_at, directory_at, name_at, new_name_at};
-ghost use Rattle.ck_volume.specs.Values.{Store, cells_on, payload_of};
+ghost use Rattle.ck_model.specs.Values.{Store, cells_on, payload_of};
 ghost use Rattle.ck_volume.specs.Walking.{small_in};
 
 use crate::ValueMap;

@@ -4,7 +4,7 @@ ghost use Rattle.ck_model.specs.Changes.{written};
 ghost use Rattle.ck_model.specs.Changing.{overwritten, with_primary};
 ghost use Rattle.ck_model.specs.History.{is_fault};
 ghost use Rattle.ck_model.specs.Step.{changing};
-ghost use Rattle.ck_volume.specs.Values.{cells_on};
+ghost use Rattle.ck_model.specs.Values.{cells_on};
 ghost use Rattle.ck_volume.specs.Standing.{world_on};
 ghost use Rattle.ck_volume.specs.Room.{answered_with};
 ghost use Rattle.ck_volume.specs.Device.{store_on};

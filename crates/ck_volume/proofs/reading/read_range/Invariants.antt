@@ -1,7 +1,7 @@
 use Rattle.std.proofs.Common.{◌≡◌, ◌-◌, ◌≤◌, IsTrue, map as list_map}
 use Rattle.std.specs.List.{range_with_len}
 use Rattle.ck_model.specs.Reading.{file_byte}
-use Rattle.ck_volume.specs.Values.{cells_on}
+use Rattle.ck_model.specs.Values.{cells_on}
 use Rattle.ck_volume.specs.Device.{store_on}
 use Rattle.ck_volume.specs.Reading.{OnlyReads}
 use Rattle.ck_volume.proofs.reading.read_range.Given as goal

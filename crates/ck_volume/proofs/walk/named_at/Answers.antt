@@ -1,7 +1,7 @@
 use Rattle.std.proofs.Common.{ap, ◌∙◌}
 use Rattle.std.specs.Option.{option_map}
 use Rattle.ck_model.specs.Cells.{named_node}
-use Rattle.ck_volume.specs.Values.{payload_of}
+use Rattle.ck_model.specs.Values.{payload_of}
 use Rattle.ck_volume.proofs.Walking.{asked, named-alike}
 use Rattle.ck_volume.proofs.walk.named_at.Goals as goal
 

@@ -1,6 +1,6 @@
 use Rattle.std.proofs.Common.{◌≡◌, drop}
 use Rattle.ck_model.specs.Walk.{walk_from}
-use Rattle.ck_volume.specs.Values.{Store, cells_on}
+use Rattle.ck_model.specs.Values.{Store, cells_on}
 use Rattle.ck_volume.proofs.walk.walk.Given as goal
 
 abbrev pub invariant-loop-name : goal.invariant-loop-name

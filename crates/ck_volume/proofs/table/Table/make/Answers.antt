@@ -1,5 +1,5 @@
 use Rattle.std.proofs.Common.{[], rules}
-use Rattle.ck_volume.specs.Values.{cells_on}
+use Rattle.ck_model.specs.Values.{cells_on}
 use Rattle.ck_volume.proofs.MakeLemmas.{new_name_at-names}
 use Rattle.ck_volume.proofs.table.Table.make.Goals as goal
 

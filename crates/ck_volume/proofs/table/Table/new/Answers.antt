@@ -1,6 +1,6 @@
 use Rattle.std.proofs.Common.{◌≡◌, ap, ◌∙◌, arith}
 use Rattle.ck_model.specs.World.{empty_world}
-use Rattle.ck_volume.specs.Values.{cells_on}
+use Rattle.ck_model.specs.Values.{cells_on}
 use Rattle.ck_volume.proofs.RootLemmas.{root, cells_on-root, kept-root, counted-root}
 use Rattle.ck_volume.proofs.table.Table.new.Goals as goal
 

@@ -1,0 +1,7 @@
+pub mod Arranged
+pub mod Cut
+pub mod Following
+pub mod Recorded
+pub mod Lawful
+pub mod Slots
+pub mod Formatted

@@ -1,0 +1,156 @@
+ghost use Rattle.std.specs.Prelude.{◌≡◌, ◌∷◌, [], ◌+◌, ◌≤◌, ◌<◌, ◌⊎◌, true, Some, IsSome, IfOk, IfErr, MatchOption, ◌^◌, ℕ, length, EachIndex, slice_index, slice_get, slice_set, vec_len, vec_capacity};
+ghost use Rattle.std.specs.Option.{option_copied};
+ghost use Rattle.std.specs.FinMap.{is_sorted};
+ghost use Rattle.std.specs.FinMap as map;
+ghost use Rattle.ck_model.specs.Key.{entry_cmp};
+ghost use Rattle.ck_model.specs.Ordered.{IsFoundAt, IsGapAt};
+ghost use Rattle.ck_slots.specs.Arranged.{arranged, entries_of, StandOnce, IsStored};
+ghost use Rattle.ck_slots.specs.Following.{keys_behind};
+
+use crate::search::{next_key, search};
+use crate::slot::Slot;
+use ck_model::{Held, Key, NoMemory};
+use std::alloc::Global;
+
+/// The entries of a table in slots, with the numbers of the slots in the order of their keys and
+/// the numbers of those that are free again. So a change moves numbers and no entries.
+#[derive(Drop)]
+pub struct Entries {
+    pub slots: Vec<Slot>,
+    pub order: Vec<u32>,
+    pub free: Vec<u32>,
+    pub limit: u32,
+    ghost sorted: { is_sorted entry_cmp (arranged slots.items order.items) ≡ true },
+    ghost once: { StandOnce (length slots.items) order.items free.items },
+    ghost whole: { vec_len order + vec_len free ≡ vec_len slots },
+    ghost fits: { vec_len slots ≤ limit },
+    ghost small: { limit ≤ 262144 },
+    ghost slots_room: { limit ≤ vec_capacity slots },
+    ghost order_room: { limit ≤ vec_capacity order },
+    ghost free_room: { limit ≤ vec_capacity free },
+}
+
+fn overwrite(slots: &mut [Slot], number: u32, slot: Slot)
+    requires { number < length slots.old }
+    ensures { slots.new ≡ slice_set slots.old number slot }
+{
+    slots[number as usize] = slot;
+}
+
+// Into the slot that was freed last, or else into a new one.
+fn store(slots: &mut Vec<Slot>, free: &mut Vec<u32>, slot: Slot) -> u32
+    requires within { EachIndex free.old.items (λ k. slice_index free.old.items k < length slots.old.items) }
+    requires room { (free.old.items ≡ []) → vec_len slots.old < vec_capacity slots.old }
+    requires few { vec_len slots.old < 2 ^ 32 }
+    ensures stored { IsStored slots.old.items free.old.items slots.new.items free.new.items result slot }
+    ensures slots_capacity { vec_capacity slots.new ≡ vec_capacity slots.old }
+    ensures free_capacity { vec_capacity free.new ≡ vec_capacity free.old }
+{
+    match free.pop() {
+        Some(number) => {
+            overwrite(slots, number, slot);
+            number
+        }
+        None => {
+            let number = slots.len() as u32;
+            slots.push_reserved(slot);
+            number
+        }
+    }
+}
+
+impl Entries {
+    pub fn new(alloc: Global, limit: u32) -> Result<Entries, NoMemory>
+        requires { limit ≤ 262144 }
+        ensures entries { IfOk result (λ s. entries_of s.slots.items s.order.items ≡ map.empty) }
+        ensures limit { IfOk result (λ s. s.limit ≡ limit) }
+    {
+        Ok(Entries {
+            slots: Vec::with_capacity(alloc, limit as usize)?,
+            order: Vec::with_capacity(alloc, limit as usize)?,
+            free: Vec::with_capacity(alloc, limit as usize)?,
+            limit,
+        })
+    }
+
+    pub fn len(&self) -> usize
+        ensures { result ≡ map.len (entries_of self.now.slots.items self.now.order.items) }
+    {
+        self.order.len()
+    }
+
+    /// The entry at this place in the order of filesets and keys.
+    pub fn at(&self, at: usize) -> (u32, Key, Held)
+        requires { at < map.len (entries_of self.now.slots.items self.now.order.items) }
+        ensures { slice_get (map.entries (entries_of self.now.slots.items self.now.order.items)) at ≡ Some ((result.0, result.1), result.2) }
+    {
+        let slot = &self.slots[self.order[at] as usize];
+        (slot.fileset, slot.key, slot.held)
+    }
+
+    fn find(&self, fileset: u32, key: &Key) -> Result<usize, usize>
+        ensures found { IfOk result (IsFoundAt entry_cmp (fileset, key.now) (arranged self.now.slots.items self.now.order.items)) }
+        ensures absent { IfErr result (IsGapAt entry_cmp (fileset, key.now) (arranged self.now.slots.items self.now.order.items)) }
+    {
+        search(&self.slots, &self.order, fileset, key)
+    }
+
+    pub fn get(&self, fileset: u32, key: &Key) -> Option<Held>
+        ensures { result ≡ map.get (entries_of self.now.slots.items self.now.order.items) (fileset, key.now) }
+    {
+        match self.find(fileset, key) {
+            Ok(at) => Some(self.slots[self.order[at] as usize].held),
+            Err(_) => None,
+        }
+    }
+
+    /// The least key after this one at which a fileset holds something.
+    pub fn next(&self, fileset: u32, after: Option<&Key>) -> Option<Key>
+        ensures { MatchOption result
+            (keys_behind (map.entries (entries_of self.now.slots.items self.now.order.items)) fileset (option_copied after.entry) ≡ [])
+            (λ key. keys_behind (map.entries (entries_of self.now.slots.items self.now.order.items)) fileset (option_copied after.entry)
+            ≡ key ∷ keys_behind (map.entries (entries_of self.now.slots.items self.now.order.items)) fileset (Some key)) }
+    {
+        next_key(&self.slots, &self.order, fileset, after)
+    }
+
+    fn add(&mut self, at: usize, slot: Slot)
+        requires gap { IsGapAt entry_cmp (slot.fileset, slot.key) (arranged self.old.slots.items self.old.order.items) at }
+        requires room { vec_len self.old.order < self.old.limit }
+        ensures entries { entries_of self.new.slots.items self.new.order.items ≡ map.insert (entries_of self.old.slots.items self.old.order.items) (slot.fileset, slot.key) slot.held }
+        ensures limit { self.new.limit ≡ self.old.limit }
+    {
+        let number = store(&mut self.slots, &mut self.free, slot);
+        self.order.insert(at, number).unwrap();
+    }
+
+    /// Sets what a fileset holds at a key.
+    pub fn put(&mut self, fileset: u32, key: &Key, held: Held)
+        requires { IsSome (map.get (entries_of self.old.slots.items self.old.order.items) (fileset, key.now)) ⊎ (vec_len self.old.order < self.old.limit) }
+        ensures entries { entries_of self.new.slots.items self.new.order.items ≡ map.insert (entries_of self.old.slots.items self.old.order.items) (fileset, key.now) held }
+        ensures limit { self.new.limit ≡ self.old.limit }
+    {
+        match self.find(fileset, key) {
+            Ok(at) => self.slots[self.order[at] as usize].held = held,
+            Err(at) => self.add(
+                at,
+                Slot {
+                    fileset,
+                    key: *key,
+                    held,
+                },
+            ),
+        }
+    }
+
+    /// Takes away what a fileset holds at a key.
+    pub fn remove(&mut self, fileset: u32, key: &Key)
+        ensures entries { entries_of self.new.slots.items self.new.order.items ≡ map.remove (entries_of self.old.slots.items self.old.order.items) (fileset, key.now) }
+        ensures limit { self.new.limit ≡ self.old.limit }
+    {
+        if let Ok(at) = self.find(fileset, key) {
+            let number = self.order.remove(at);
+            self.free.push_reserved(number);
+        }
+    }
+}

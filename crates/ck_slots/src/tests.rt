@@ -1,0 +1,160 @@
+ghost use Rattle.std.specs.Prelude.{◌<◌, ◌≤◌};
+ghost use Rattle.ck_model.specs.Held.{IsEntry};
+ghost use Rattle.ck_model.specs.Name.{IsCheckpointName};
+
+use crate::Slots;
+use ck_model::{Counters, Fileset, Held, Key, Kind, Meta, NameBytes, Small};
+use std::test::Fail;
+
+/// Puts where there is room, as any caller of a table would.
+fn put_where_room<M: Meta>(table: &mut M, fs: u32, key: &Key, held: Held) -> bool
+    requires { IsEntry key.now held }
+{
+    if table.spare() == 0 {
+        return false;
+    }
+    table.put(fs, key, held);
+    true
+}
+
+fn put_file(slots: &mut Slots, number: u32, size: u64) -> bool
+    requires { size < 1000 }
+{
+    put_where_room(
+        slots,
+        0,
+        &Key::Node(number),
+        Held::Plain(1, Small::File(size)),
+    )
+}
+
+fn put_block(slots: &mut Slots, number: u32, index: u32) -> bool
+    requires { index < 1000 }
+{
+    put_where_room(slots, 3, &Key::Block(number, index), Held::Extent(7, index))
+}
+
+#[test]
+fn a_new_table_has_the_root_alone(rt: HostRuntime) -> Result<(), Fail> {
+    let slots = Slots::formatted(rt.alloc(), 64, 256)?;
+    let root = Key::Node(0);
+    let counters = Counters {
+        stamp: 1,
+        id: 1,
+        number: 1,
+    };
+    assert_eq!(rt; slots.counters(), counters);
+    assert_eq!(rt;
+        (slots.blocks(), slots.records(), slots.spare()),
+        (64, 256, 255)
+    );
+    assert_eq!(rt; (slots.entry_count(), slots.fileset_count()), (1, 0));
+    assert_eq!(rt; slots.get(0, &root), Some(Held::Plain(0, Small::Dir)));
+    assert_eq!(rt; slots.get(1, &root), None);
+    assert_eq!(rt; slots.next(0, None), Some(root));
+    assert_eq!(rt; slots.next(0, Some(&root)), None);
+    assert_eq!(rt; slots.next_fileset(0), None);
+    Ok(())
+}
+
+#[test]
+fn entries_stand_in_order(rt: HostRuntime) -> Result<(), Fail> {
+    let mut slots = Slots::formatted(rt.alloc(), 1, 32)?;
+    // 7 and 32 have no common factor, so these are the numbers 1 to 31.
+    for at in 1..32 {
+        assert!(rt; put_file(&mut slots, at * 7 % 32, u64::from(at)));
+    }
+    assert!(rt; !put_file(&mut slots, 40, 1));
+    assert_eq!(rt;
+        slots.get(0, &Key::Node(14)),
+        Some(Held::Plain(1, Small::File(2)))
+    );
+    let mut key = slots.next(0, None);
+    for number in 0..32 {
+        assert_eq!(rt; key, Some(Key::Node(number)));
+        key = slots.next(0, key.as_ref());
+    }
+    assert_eq!(rt; key, None);
+    Ok(())
+}
+
+#[test]
+fn what_is_deleted_leaves_room(rt: HostRuntime) -> Result<(), Fail> {
+    let mut slots = Slots::formatted(rt.alloc(), 1, 32)?;
+    for number in 1..32 {
+        assert!(rt; put_file(&mut slots, number, 1));
+    }
+    for number in 8..24 {
+        slots.del(0, &Key::Node(number));
+        slots.del(0, &Key::Node(number));
+    }
+    assert_eq!(rt; slots.spare(), 16);
+    for index in 0..16 {
+        assert!(rt; put_block(&mut slots, 5, index * 5 % 16));
+    }
+    assert_eq!(rt; slots.spare(), 0);
+    assert_eq!(rt; slots.next(0, Some(&Key::Node(7))), Some(Key::Node(24)));
+    assert_eq!(rt;
+        slots.next(3, Some(&Key::Block(5, 9))),
+        Some(Key::Block(5, 10))
+    );
+    assert_eq!(rt; slots.get(3, &Key::Block(5, 15)), Some(Held::Extent(7, 15)));
+    assert!(rt; slots.entry_count() == 32);
+    assert_eq!(rt;
+        slots.entry_at(16),
+        (3, Key::Block(5, 0), Held::Extent(7, 0))
+    );
+    Ok(())
+}
+
+fn put_checkpoint(slots: &mut Slots, id: u32, name: &NameBytes) -> bool
+    requires some { 1 ≤ id }
+    requires name { IsCheckpointName name.now }
+{
+    if slots.spare() == 0 {
+        return false;
+    }
+    let fileset = Fileset {
+        name: *name,
+        kind: Kind::Keeping,
+        removable: true,
+        gone: id == 5,
+        ctime: 100,
+    };
+    slots.put_fileset(id, fileset);
+    true
+}
+
+#[test]
+fn checkpoints_stand_by_id(rt: HostRuntime) -> Result<(), Fail> {
+    let mut slots = Slots::formatted(rt.alloc(), 1, 32)?;
+    let name = NameBytes::read(b"daily").ok_or("daily")?;
+    assert!(rt; name.is_checkpoint_name());
+    assert!(rt; put_checkpoint(&mut slots, 5, &name));
+    assert!(rt; put_checkpoint(&mut slots, 2, &name));
+    assert!(rt; put_checkpoint(&mut slots, 9, &name));
+    assert_eq!(rt; slots.spare(), 28);
+    assert_eq!(rt; slots.fileset(5).map(|fileset| fileset.gone), Some(true));
+    assert_eq!(rt; slots.next_fileset(0), Some(2));
+    assert_eq!(rt; slots.next_fileset(2), Some(5));
+    assert_eq!(rt; slots.next_fileset(9), None);
+    slots.del_fileset(5);
+    assert!(rt; slots.fileset(5).is_none());
+    assert_eq!(rt; slots.next_fileset(2), Some(9));
+    assert!(rt; slots.fileset_count() == 2);
+    assert_eq!(rt; slots.fileset_at(1).0, 9);
+    Ok(())
+}
+
+#[test]
+fn counters_are_set(rt: HostRuntime) -> Result<(), Fail> {
+    let mut slots = Slots::formatted(rt.alloc(), 1, 32)?;
+    let counters = Counters {
+        stamp: 1 << 63,
+        id: 7,
+        number: 9,
+    };
+    slots.set_counters(counters);
+    assert_eq!(rt; slots.counters(), counters);
+    Ok(())
+}
