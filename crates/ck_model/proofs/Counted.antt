@@ -195,3 +195,174 @@ stamps_differ store h x s r hs xr apart =
     let two = stamp_is store x r xr in
     let other : (cell_on store h).stamp ≢ (cell_on store x).stamp = λ same. apart (sym one ∙ same ∙ two) in
     grind (arith, nat_tests, other)
+
+shown_left : (kind : Kind) (a : Cells) (q : Key) (p : Option Cell) → differs (map.get (shown_by kind a) q) p ≡ differs (map.get a q) p
+shown_left Keeping a q p = refl
+shown_left Nodata a q p = ap (λ o. differs o p) (get-marked a q) ∙ differs-mark_of q (map.get a q) p
+
+shown_right : (kind : Kind) (b : Cells) (q : Key) (o : Option Cell) → differs o (map.get (shown_by kind b) q) ≡ differs o (map.get b q)
+shown_right Keeping b q o = refl
+shown_right Nodata b q o = ap (differs o) (get-marked b q) ∙ differs_from_mark q o (map.get b q)
+
+-- a checkpoint, and those behind it, as they stand in a table
+pub record IsPlaced (t : Table) (e : ℕ × Fileset) (es : List (ℕ × Fileset)) : Type 0 where
+  pub newer : newer t e.0 ≡ list_map (λ x. x.0) es
+  pub some : 1 ≤ e.0
+  pub stands : map.get t.filesets e.0 ≡ Some e.1
+
+abbrev pub ArePlaced : Table → List (ℕ × Fileset) → Type 0
+ArePlaced t [] = ⊤
+ArePlaced t (e ∷ es) = IsPlaced t e es × ArePlaced t es
+
+module _ (t : Table) (lawful : IsTable t) where
+  placed : (es : List (ℕ × Fileset)) → Follow (newer t) es → AllByRecursion (λ e. map.get t.filesets e.0 ≡ Some e.1) es → ArePlaced t es
+  placed [] follow stand = tt
+  placed (e ∷ es) follow stand = (record { newer = follow.0; some = (lawful.filesets e.0 e.1 stand.0).some; stands = stand.0 }, placed es follow.1 stand.1)
+
+  -- all checkpoints of a table are placed
+  pub all_placed : ArePlaced t (map.entries t.filesets)
+  all_placed = placed (map.entries t.filesets) (follow_newer t)
+      (all_found nat_cmp_total nat_cmp-IsAntisymmetric (λ e. map.get t.filesets e.0 ≡ Some e.1) (map.entries t.filesets) (entries_sorted t.filesets) (λ id f found. map.get-entries t.filesets id ∙ found))
+
+value_at_some : (t : Table) (id : ℕ) (q : Key) → 1 ≤ id → value_at t id q ≡ value_of t id q
+value_at_some t id q some = let apart : nat_eq id 0 ≡ false = grind (arith, nat_tests) in ap (λ b. cond b (present (column t q 0)) (value_of t id q)) apart
+
+-- what a checkpoint's map has at a key
+get-checkpoint : (store : Store) (t : Table) (id : ℕ) (q : Key) → 1 ≤ id → map.get (cells_on store (values_of t id)) q ≡ read_on store (first_entry (column t q) (id ∷ newer t id))
+get-checkpoint store t id q some =
+    get-cells_on store (values_of t id) q
+    ∙ ap (option_map (cell_on store)) (get-values_of t id q ∙ value_at_some t id q some)
+
+get-primary : (store : Store) (t : Table) (q : Key) → map.get (cells_on store (values_of t 0)) q ≡ read_on store (column t q 0)
+get-primary store t q = get-cells_on store (values_of t 0) q ∙ ap (option_map (cell_on store)) (get-values_of t 0 q)
+
+abbrev checkpoints_of : Store → Table → List (ℕ × Fileset) → List Checkpoint
+checkpoints_of store t es = list_map (λ e. checkpoint_on store t e.0 e.1) es
+
+-- the next newer map, as others differ from it
+next_differs : (store : Store) (t : Table) (es : List (ℕ × Fileset)) → ArePlaced t es → (q : Key) (o : Option Cell)
+    → differs o (map.get (next_cells (cells_on store (values_of t 0)) (checkpoints_of store t es)) q) ≡ differs o (read_on store (first_entry (column t q) (list_map (λ e. e.0) es)))
+next_differs store t [] stand q o = ap (differs o) (get-primary store t q)
+next_differs store t (e ∷ es) stand q o =
+    shown_right e.1.kind (cells_on store (values_of t e.0)) q o
+    ∙ ap (differs o) (get-checkpoint store t e.0 q stand.0.some ∙ ap (λ ids. read_on store (first_entry (column t q) (e.0 ∷ ids))) stand.0.newer)
+
+module _ (t : Table) (lawful : IsTable t) (sound : IsSound t) (none : NoneGone t) where
+  not_gone : (g : ℕ) → is_gone t g ≡ true → ⊥
+  not_gone g h =
+      elim (map.get t.filesets g) as (λ o. map.get t.filesets g ≡ o → option_map_or (λ fileset. fileset.gone) o false ≡ true → ⊥) [
+        | None ↦ λ _ clash. false≢true clash
+        | Some f ↦ λ is gone. false≢true (sym (none g f is) ∙ gone)
+      ] refl h
+
+  live_there : (id : ℕ) (f : Fileset) → map.get t.filesets id ≡ Some f → is_live t id ≡ true
+  live_there id f is = ap (λ o. option_map_or (λ (fileset : Fileset). not fileset.gone) o false) is ∙ ap not (none id f is)
+
+  -- an absent is read past to something else
+  after_absent : (store : Store) (q : Key) (id : ℕ) → is_live t id ≡ true → column t q id ≡ Some Absent → (o : Option Held) → first_entry (column t q) (newer t id) ≡ o → differs None (read_on store o) ≡ true
+  after_absent store q id live has None is =
+      absurd (subst (λ o. IsSomeAnd o (λ (e : ℕ × Held). (is_gone t e.0 ≡ true) ⊎ (e.1 ≢ Absent))) (no_holder (column t q) (newer t id) is) (sound.absents id q live has))
+  after_absent store q id live has (Some x) is =
+      let h = holder (column t q) (newer t id) x is in
+      let needed : (is_gone t h.at ≡ true) ⊎ (x ≢ Absent) = subst (λ o. IsSomeAnd o (λ (e : ℕ × Held). (is_gone t e.0 ≡ true) ⊎ (e.1 ≢ Absent))) h.first (sound.absents id q live has) in
+      elim needed [
+        | inl gone ↦ absurd (not_gone h.at gone)
+        | inr present ↦ elim (absent_or x) [
+          | inl absent ↦ absurd (present absent)
+          | inr version ↦ ap (differs None) (stamped store x version.0 version.1)
+        ]
+      ]
+
+  -- two versions of a key are apart
+  other_fileset : (q : Key) (id : ℕ) (h x : Held) (s : ℕ) → 1 ≤ id → column t q id ≡ Some h → Holder (column t q) (newer t id) x → stamp_in h ≡ Some s → stamp_in x ≡ Some s → ⊥
+  other_fileset q id h x s some has g hs xs =
+      let same : id ≡ g.at = sound.orderly.versions id g.at q h x s has g.has hs xs in
+      elim g.where_is [
+        | inl zero ↦ omega (arith, some, same, zero)
+        | inr among ↦ let past : nat_lt id g.at ≡ true = among_passes (λ x. nat_lt id x) g.at (map.keys t.filesets) among in
+            let less : id < g.at = grind (arith, nat_tests) in omega (arith, same, less)
+      ]
+
+  after_version : (store : Store) (q : Key) (id : ℕ) (h : Held) (s : ℕ) → 1 ≤ id → column t q id ≡ Some h → stamp_in h ≡ Some s → (o : Option Held) → first_entry (column t q) (newer t id) ≡ o → differs (Some (cell_on store h)) (read_on store o) ≡ true
+  after_version store q id h s some has hs None is = refl
+  after_version store q id h s some has hs (Some x) is =
+      elim (absent_or x) [
+        | inl absent ↦ ap (λ y. differs (Some (cell_on store h)) (read_on store (Some y))) absent
+        | inr version ↦ ap (differs (Some (cell_on store h))) (stamped store x version.0 version.1)
+            ∙ stamps_differ store h x s version.0 hs version.1 (λ same. other_fileset q id h x s some has (holder (column t q) (newer t id) x is) hs (version.1 ∙ ap (λ n. Some n) (sym same)))
+      ]
+
+  -- each entry says something else than what is newer
+  says_else : (store : Store) (q : Key) (id : ℕ) (f : Fileset) → map.get t.filesets id ≡ Some f → 1 ≤ id → (h : Held) → column t q id ≡ Some h → differs (read_on store (Some h)) (read_on store (first_entry (column t q) (newer t id))) ≡ true
+  says_else store q id f there some h has =
+      elim (absent_or h) [
+        | inl absent ↦ ap (λ y. differs (read_on store (Some y)) (read_on store (first_entry (column t q) (newer t id)))) absent
+            ∙ after_absent store q id (live_there id f there) (has ∙ ap (λ y. Some y) absent) (first_entry (column t q) (newer t id)) refl
+        | inr version ↦ ap (λ o. differs o (read_on store (first_entry (column t q) (newer t id)))) (stamped store h version.0 version.1)
+            ∙ after_version store q id h version.0 some has version.1 (first_entry (column t q) (newer t id)) refl
+      ]
+
+  -- where a checkpoint's map and the next newer one differ, the checkpoint has an entry
+  pub differs_where : (store : Store) (e : ℕ × Fileset) (es : List (ℕ × Fileset)) → ArePlaced t (e ∷ es) → (q : Key)
+      → differs (map.get (checkpoint_on store t e.0 e.1).cells q) (map.get (next_cells (cells_on store (values_of t 0)) (checkpoints_of store t es)) q) ≡ is_some (column t q e.0)
+  differs_where store e es stand q =
+      let next = map.get (next_cells (cells_on store (values_of t 0)) (checkpoints_of store t es)) q in
+      shown_left e.1.kind (cells_on store (values_of t e.0)) q next
+      ∙ ap (λ o. differs o next) (get-checkpoint store t e.0 q stand.0.some)
+      ∙ next_differs store t es stand.1 q (read_on store (first_entry (column t q) (e.0 ∷ newer t e.0)))
+      ∙ ap (λ ids. differs (read_on store (first_entry (column t q) (e.0 ∷ newer t e.0))) (read_on store (first_entry (column t q) ids))) (sym stand.0.newer)
+      ∙ sym (entry_differs store (column t q e.0) (first_entry (column t q) (newer t e.0)) (says_else store q e.0 e.1 stand.0.stands stand.0.some))
+
+  differences_are : (store : Store) (es : List (ℕ × Fileset)) → ArePlaced t es → total (λ fs. total (λ x. 1) (row_of t fs)) (list_map (λ e. e.0) es) ≡ difference_count (cells_on store (values_of t 0)) (checkpoints_of store t es)
+  differences_are store [] stand = refl
+  differences_are store (e ∷ es) stand =
+      let cells = (checkpoint_on store t e.0 e.1).cells in
+      let next = next_cells (cells_on store (values_of t 0)) (checkpoints_of store t es) in
+      let here : total (λ x. 1) (row_of t e.0) ≡ map.len (differences cells next) =
+          row_counts t e.0 (λ _. 1) (λ _. true) (differences cells next) (λ key h has. refl) (λ q. contains_key-differences cells next q ∙ differs_where store e es stand q) in
+      λ i. here i + differences_are store es stand.1 i
+
+  primary_held : (store : Store) (q : Key) → map.contains_key (cells_on store (values_of t 0)) q ≡ is_some (column t q 0)
+  primary_held store q = ap is_some (get-primary store t q) ∙
+      elim (column t q 0) as (λ o. column t q 0 ≡ o → is_some (read_on store o) ≡ is_some o) [
+        | None ↦ λ _. refl
+        | Some h ↦ λ is. own_held h (sound.orderly.primary q h is)
+      ] refl
+    where
+      own_held : (h : Held) → IsOwn h → is_some (read_on store (Some h)) ≡ true
+      own_held Absent own = absurd own
+      own_held (Plain s small) own = refl
+      own_held (Extent s block) own = refl
+      own_held (Mark s) own = absurd own
+
+  all_live : (es : List (ℕ × Fileset)) → ArePlaced t es → filter (λ (e : ℕ × Fileset). not e.1.gone) es ≡ es
+  all_live [] stand = refl
+  all_live (e ∷ es) stand =
+      ap (λ b. cond b (e ∷ filter (λ (e : ℕ × Fileset). not e.1.gone) es) (filter (λ (e : ℕ × Fileset). not e.1.gone) es)) (ap not (none e.0 e.1 stand.0.stands))
+      ∙ ap (λ l. e ∷ l) (all_live es stand.1)
+
+  -- all checkpoints are live
+  pub live_all : live_filesets t ≡ map.entries t.filesets
+  live_all = all_live (map.entries t.filesets) (all_placed t lawful)
+
+total_ones : {X : Type 0} (xs : List X) → total (λ x. 1) xs ≡ length xs
+total_ones [] = refl
+total_ones (x ∷ xs) = omega (arith, total_ones xs)
+
+length_mapped : {X Y : Type 0} (f : X → Y) (xs : List X) → length (list_map f xs) ≡ length xs
+length_mapped f [] = refl
+length_mapped f (x ∷ xs) = omega (arith, length_mapped f xs)
+
+-- the table has as many records as its world takes
+pub records_are : (store : Store) (mounts : Mounts) (t : Table) → IsTable t → IsSound t → NoneGone t → record_count t ≡ records_in (world_on store mounts t)
+records_are store mounts t lawful sound none =
+    let filesets = map.entries t.filesets in
+    let stand = all_placed t lawful in
+    let live : checkpoints_on store t ≡ checkpoints_of store t filesets = ap (checkpoints_of store t) (live_all t lawful sound none) in
+    let primary : total (λ x. 1) (row_of t 0) ≡ map.len (cells_on store (values_of t 0)) =
+        row_counts t 0 (λ _. 1) (λ _. true) (cells_on store (values_of t 0)) (λ key h has. refl) (primary_held t lawful sound none store) in
+    let rest = differences_are t lawful sound none store filesets stand in
+    let rows = all_rows t lawful sound (λ _. 1) in
+    let entries : map.len t.entries ≡ total (λ e. 1) (map.entries t.entries) = map.len-entries t.entries ∙ sym (total_ones (map.entries t.entries)) in
+    let count : length (checkpoints_of store t filesets) ≡ map.len t.filesets = length_mapped (λ (e : ℕ × Fileset). checkpoint_on store t e.0 e.1) filesets ∙ sym (map.len-entries t.filesets) in
+    subst (λ cs. record_count t ≡ map.len (cells_on store (values_of t 0)) + difference_count (cells_on store (values_of t 0)) cs + length cs) (sym live) (omega (arith, primary, rest, rows, entries, count))
