@@ -15,6 +15,7 @@ use Rattle.ck_model.specs.declared.key.Key.TheVariants.{Name, Node, Block}
 use Rattle.ck_model.specs.declared.cell.Cell.{Cell}
 use Rattle.ck_model.specs.declared.held.Held.{Held}
 use Rattle.ck_model.specs.declared.held.Held.TheVariants.{Absent, Plain, Extent, Mark}
+use Rattle.ck_model.specs.declared.held.Small.TheVariants.{To, File, Dir}
 use Rattle.ck_model.specs.declared.checkpoint.Fileset.{Fileset}
 use Rattle.ck_model.specs.declared.checkpoint.Kind.{Kind}
 use Rattle.ck_model.specs.declared.checkpoint.Kind.TheVariants.{Keeping, Nodata}
@@ -366,3 +367,209 @@ records_are store mounts t lawful sound none =
     let entries : map.len t.entries ≡ total (λ e. 1) (map.entries t.entries) = map.len-entries t.entries ∙ sym (total_ones (map.entries t.entries)) in
     let count : length (checkpoints_of store t filesets) ≡ map.len t.filesets = length_mapped (λ (e : ℕ × Fileset). checkpoint_on store t e.0 e.1) filesets ∙ sym (map.len-entries t.filesets) in
     subst (λ cs. record_count t ≡ map.len (cells_on store (values_of t 0)) + difference_count (cells_on store (values_of t 0)) cs + length cs) (sym live) (omega (arith, primary, rest, rows, entries, count))
+
+-- ---- data blocks
+
+-- only where data is kept do checkpoints name data blocks
+abbrev pub AllStripped : Table → Type 0
+AllStripped t = (fs : ℕ) (key : Key) (stamp block : ℕ) → column t key fs ≡ Some (Extent stamp block) → (fs ≡ 0) ⊎ (keeps_data t fs ≡ true)
+
+abbrev is_extent : Held → Bool
+is_extent Absent = false
+is_extent (Plain stamp small) = false
+is_extent (Extent stamp block) = true
+is_extent (Mark stamp) = false
+
+abbrev is_extent_in : Option Held → Bool
+is_extent_in None = false
+is_extent_in (Some h) = is_extent h
+
+abbrev named_count : Held → ℕ
+named_count h = length (blocks_in h)
+
+named_one : (h : Held) → named_count h ≡ (if is_extent h then 1 else 0)
+named_one Absent = refl
+named_one (Plain stamp small) = refl
+named_one (Extent stamp block) = refl
+named_one (Mark stamp) = refl
+
+named_where : (t : Table) (fs : ℕ) (key : Key) (h : Held) → column t key fs ≡ Some h → named_count h ≡ (if is_extent_in (column t key fs) then 1 else 0)
+named_where t fs key h has = named_one h ∙ ap (λ o. if is_extent_in o then 1 else 0) (sym has)
+
+and_false : (b : Bool) → (b && false) ≡ false
+and_false true = refl
+and_false false = refl
+
+and_nothing : (b c : Bool) → ((b && false) && c) ≡ false
+and_nothing true c = refl
+and_nothing false c = refl
+
+-- data blocks stand at the keys of blocks
+block_where : (store : Store) (q : Key) (h : Held) → BelongsTo q h → ((s : ℕ) → h ≡ Mark s → ⊥) → ((is_block q && true) && is_some (read_on store (Some h))) ≡ (is_extent h && true)
+block_where store q Absent belongs no_mark = and_false (is_block q && true)
+block_where store q (Mark s) belongs no_mark = absurd (no_mark s refl)
+block_where store (Name d n) (Plain s small) belongs no_mark = refl
+block_where store (Name d n) (Extent s b) belongs no_mark = absurd belongs
+block_where store (Node n) (Plain s small) belongs no_mark = refl
+block_where store (Node n) (Extent s b) belongs no_mark = absurd belongs
+block_where store (Block n i) (Plain s (To node)) belongs no_mark = absurd belongs
+block_where store (Block n i) (Plain s (File size)) belongs no_mark = absurd belongs
+block_where store (Block n i) (Plain s Dir) belongs no_mark = absurd belongs
+block_where store (Block n i) (Extent s b) belongs no_mark = refl
+
+some_mapped : {X Y : Type 0} (f : X → Y) (o : Option X) → is_some (option_map f o) ≡ is_some o
+some_mapped f None = refl
+some_mapped f (Some x) = refl
+
+contains-shown : (kind : Kind) (a : Cells) (q : Key) → map.contains_key (shown_by kind a) q ≡ map.contains_key a q
+contains-shown Keeping a q = refl
+contains-shown Nodata a q = ap is_some (get-marked a q) ∙ some_mapped _ (map.get a q)
+
+-- whether each of these keeps data, where an older one does or not
+abbrev KeepFrom : (ℕ → Bool) → Bool → List (ℕ × Fileset) → Type 0
+KeepFrom keeps older [] = ⊤
+KeepFrom keeps older (e ∷ es) = (keeps e.0 ≡ (older || keeps_files e.1.kind)) × KeepFrom keeps (older || keeps_files e.1.kind) es
+
+abbrev any_upto : ℕ → List (ℕ × Fileset) → Bool
+any_upto fs es = list_any (λ e. nat_le e.0 fs && keeps_files e.1.kind) es
+
+above_head : (x y : ℕ) (b : Bool) → T (is_lt (nat_cmp x y) && b) → (x < y) × T b
+above_head x y b h = grind (arith, nat_tests)
+
+none_upto : (x : ℕ) (es : List (ℕ × Fileset)) → T (below_all nat_cmp x es) → any_upto x es ≡ false
+none_upto x [] h = refl
+none_upto x (e ∷ es) h =
+    let head = above_head x e.0 (below_all nat_cmp x es) h in
+    let past : nat_le e.0 x ≡ false = let less = head.0 in grind (arith, nat_tests) in
+    ap (λ b. b && keeps_files e.1.kind || any_upto x es) past ∙ none_upto x es head.1
+
+or_false : (b : Bool) → (b || false) ≡ b
+or_false true = refl
+or_false false = refl
+
+or_assoc : (a b c : Bool) → (a || (b || c)) ≡ ((a || b) || c)
+or_assoc true b c = refl
+or_assoc false b c = refl
+
+keep_alike : (f g : ℕ → Bool) (older : Bool) (x : ℕ) (es : List (ℕ × Fileset)) → T (below_all nat_cmp x es) → ((id : ℕ) → x < id → g id ≡ f id) → KeepFrom f older es → KeepFrom g older es
+keep_alike f g older x [] below same h = tt
+keep_alike f g older x (e ∷ es) below same h =
+    let head = above_head x e.0 (below_all nat_cmp x es) below in
+    (same e.0 head.0 ∙ h.0, keep_alike f g (older || keeps_files e.1.kind) x es head.1 same h.1)
+
+keep_upto : (older : Bool) (es : List (ℕ × Fileset)) → T (is_sorted nat_cmp es) → KeepFrom (λ id. older || any_upto id es) older es
+keep_upto older [] s = tt
+keep_upto older (e ∷ es) s =
+    let parts = head_of (below_all nat_cmp e.0 es) (is_sorted nat_cmp es) s in
+    let keep = keeps_files e.1.kind in
+    let self : nat_le e.0 e.0 ≡ true = grind (arith, nat_tests) in
+    (ap (λ b. older || (b && keep || any_upto e.0 es)) self ∙ ap (λ b. older || (keep || b)) (none_upto e.0 es parts.0) ∙ ap (λ b. older || b) (or_false keep),
+    keep_alike (λ id. (older || keep) || any_upto id es) (λ id. older || any_upto id (e ∷ es)) (older || keep) e.0 es parts.0
+    (λ id less. let upto : nat_le e.0 id ≡ true = grind (arith, nat_tests) in ap (λ b. older || (b && keep || any_upto id es)) upto ∙ or_assoc older keep (any_upto id es))
+    (keep_upto (older || keep) es parts.1))
+
+module _ (t : Table) (lawful : IsTable t) (sound : IsSound t) (none : NoneGone t) where
+  all_newer : (es : List (ℕ × Fileset)) → ArePlaced t es → filter (λ id. nat_lt 0 id) (list_map (λ e. e.0) es) ≡ list_map (λ (e : ℕ × Fileset). e.0) es
+  all_newer [] stand = refl
+  all_newer (e ∷ es) stand =
+      let some : nat_lt 0 e.0 ≡ true = let low = stand.0.some in grind (arith, nat_tests) in
+      ap (λ b. cond b (e.0 ∷ filter (λ id. nat_lt 0 id) (list_map (λ e. e.0) es)) (filter (λ id. nat_lt 0 id) (list_map (λ e. e.0) es))) some
+      ∙ ap (λ l. e.0 ∷ l) (all_newer es stand.1)
+
+  live_data_is : (e : ℕ × Fileset) → map.get t.filesets e.0 ≡ Some e.1 → is_live_data t e.0 ≡ keeps_files e.1.kind
+  live_data_is e is =
+      ap (λ o. option_map_or (λ (f : Fileset). not f.gone && keeps_files f.kind) o false) is
+      ∙ ap (λ b. not b && keeps_files e.1.kind) (none e.0 e.1 is)
+
+  any_is : (fs : ℕ) (es : List (ℕ × Fileset)) → ArePlaced t es → list_any (λ id. nat_le id fs && is_live_data t id) (list_map (λ e. e.0) es) ≡ any_upto fs es
+  any_is fs [] stand = refl
+  any_is fs (e ∷ es) stand = λ i. nat_le e.0 fs && live_data_is e stand.0.stands i || any_is fs es stand.1 i
+
+  keeps_is : (fs : ℕ) → keeps_data t fs ≡ any_upto fs (map.entries t.filesets)
+  keeps_is fs =
+      ap (list_any (λ id. nat_le id fs && is_live_data t id)) (all_newer (map.entries t.filesets) (all_placed t lawful))
+      ∙ any_is fs (map.entries t.filesets) (all_placed t lawful)
+
+  keep_all : KeepFrom (keeps_data t) false (map.entries t.filesets)
+  keep_all = subst (λ f. KeepFrom f false (map.entries t.filesets)) (λ i fs. sym (keeps_is fs) i) (keep_upto false (map.entries t.filesets) (entries_sorted t.filesets))
+
+  -- the primary's
+  primary_blocks : (store : Store) → total (λ x. named_count x.1) (row_of t 0) ≡ block_count (cells_on store (values_of t 0))
+  primary_blocks store =
+      row_counts t 0 named_count (λ q. is_extent_in (column t q 0)) (map.retain_keys (cells_on store (values_of t 0)) is_block) (named_where t 0) (λ q.
+      contains_key-retain_keys key_cmp_total key_cmp_exact (cells_on store (values_of t 0)) is_block q
+      ∙ ap (λ b. is_block q && b) (ap is_some (get-primary store t q))
+      ∙ elim (column t q 0) as (λ o. column t q 0 ≡ o → (is_block q && is_some (read_on store o)) ≡ (is_extent_in o && is_some o)) [
+        | None ↦ λ _. and_false (is_block q)
+        | Some h ↦ λ is. own_block q h (lawful.entries 0 q h is).1.value (sound.orderly.primary q h is)
+      ] refl)
+    where
+      and_true : (b : Bool) → (b && true) ≡ b
+      and_true true = refl
+      and_true false = refl
+      own_block : (q : Key) (h : Held) → BelongsTo q h → IsOwn h → (is_block q && is_some (read_on store (Some h))) ≡ (is_extent h && true)
+      own_block q h belongs own =
+          ap (λ b. b && is_some (read_on store (Some h))) (sym (and_true (is_block q)))
+          ∙ block_where store q h belongs (λ s mark. subst IsOwn mark own)
+
+  -- a checkpoint's that keeps data
+  kept_blocks : (store : Store) (e : ℕ × Fileset) (es : List (ℕ × Fileset)) → ArePlaced t (e ∷ es) → keeps_data t e.0 ≡ true
+      → total (λ x. named_count x.1) (row_of t e.0) ≡ own_block_count (checkpoint_on store t e.0 e.1).cells (next_cells (cells_on store (values_of t 0)) (checkpoints_of store t es))
+  kept_blocks store e es stand keeps =
+      let cells = (checkpoint_on store t e.0 e.1).cells in
+      let next = next_cells (cells_on store (values_of t 0)) (checkpoints_of store t es) in
+      row_counts t e.0 named_count (λ q. is_extent_in (column t q e.0)) (map.retain_keys cells (λ key. is_block key && differs (map.get cells key) (map.get next key))) (named_where t e.0) (λ q.
+      contains_key-retain_keys key_cmp_total key_cmp_exact cells (λ key. is_block key && differs (map.get cells key) (map.get next key)) q
+      ∙ ap (λ b. (is_block q && b) && map.contains_key cells q) (differs_where t lawful sound none store e es stand q)
+      ∙ ap (λ b. (is_block q && is_some (column t q e.0)) && b) (contains-shown e.1.kind (cells_on store (values_of t e.0)) q ∙ ap is_some (get-checkpoint store t e.0 q stand.0.some))
+      ∙ elim (column t q e.0) as (λ o. column t q e.0 ≡ o → ((is_block q && is_some o) && is_some (read_on store (option_or o (first_entry (column t q) (newer t e.0))))) ≡ (is_extent_in o && is_some o)) [
+        | None ↦ λ _. and_nothing (is_block q) (is_some (read_on store (first_entry (column t q) (newer t e.0))))
+        | Some h ↦ λ is. block_where store q h (lawful.entries e.0 q h is).1.value (λ s mark. false≢true (sym (sound.orderly.marks e.0 q s (is ∙ ap (λ y. Some y) mark)) ∙ keeps))
+      ] refl)
+
+  -- one that keeps none has none
+  no_blocks : (id : ℕ) → 1 ≤ id → AllStripped t → keeps_data t id ≡ false → total (λ x. named_count x.1) (row_of t id) ≡ 0
+  no_blocks id some stripped keeps =
+      row_counts t id named_count (λ q. false) (map.empty {X = Cell}) (λ key h has. none_named key h has) (λ q. ap is_some (map.get-empty key_cmp q))
+      ∙ map.len-empty key_cmp Cell
+    where
+      none_named : (key : Key) (h : Held) → column t key id ≡ Some h → named_count h ≡ 0
+      none_named key Absent has = refl
+      none_named key (Plain s small) has = refl
+      none_named key (Extent s b) has = elim (stripped id key s b has) [
+        | inl zero ↦ absurd (omega (arith, zero, some))
+        | inr kept ↦ absurd (false≢true (sym keeps ∙ kept))
+      ]
+      none_named key (Mark s) has = refl
+
+  blocks_from : (store : Store) → AllStripped t → (older : Bool) (es : List (ℕ × Fileset)) → ArePlaced t es → KeepFrom (keeps_data t) older es
+      → total (λ fs. total (λ x. named_count x.1) (row_of t fs)) (list_map (λ e. e.0) es) ≡ held_by older (cells_on store (values_of t 0)) (checkpoints_of store t es)
+  blocks_from store stripped older [] stand keep = refl
+  blocks_from store stripped older (e ∷ es) stand keep =
+      let own = own_block_count (checkpoint_on store t e.0 e.1).cells (next_cells (cells_on store (values_of t 0)) (checkpoints_of store t es)) in
+      let here : total (λ x. named_count x.1) (row_of t e.0) ≡ (if older || keeps_files e.1.kind then own else 0) =
+          elim (older || keeps_files e.1.kind) as (λ b. keeps_data t e.0 ≡ b → total (λ x. named_count x.1) (row_of t e.0) ≡ (if b then own else 0)) [
+            | true ↦ λ keeps. kept_blocks store e es stand keeps
+            | false ↦ λ keeps. no_blocks e.0 stand.0.some stripped keeps
+          ] keep.0 in
+      λ i. here i + blocks_from store stripped (older || keeps_files e.1.kind) es stand.1 keep.1 i
+
+length-joined : {X : Type 0} (xs ys : List X) → length (xs ++ ys) ≡ length xs + length ys
+length-joined [] ys = omega arith
+length-joined (x ∷ xs) ys = omega (arith, length-joined xs ys)
+
+all_named : (es : List ((ℕ × Key) × Held)) → length (blocks_of es) ≡ total (λ e. named_count e.1) es
+all_named [] = refl
+all_named (e ∷ es) = length-joined (blocks_in e.1) (blocks_of es) ∙ ap (λ n. named_count e.1 + n) (all_named es)
+
+-- the table names as many data blocks as its world takes
+pub extents_are : (store : Store) (mounts : Mounts) (t : Table) → IsTable t → IsSound t → NoneGone t → AllStripped t → extent_count t ≡ held (world_on store mounts t)
+extents_are store mounts t lawful sound none stripped =
+    let filesets = map.entries t.filesets in
+    let live : checkpoints_on store t ≡ checkpoints_of store t filesets = ap (checkpoints_of store t) (live_all t lawful sound none) in
+    let rest = blocks_from t lawful sound none store stripped false filesets (all_placed t lawful) (keep_all t lawful sound none) in
+    let primary = primary_blocks t lawful sound none store in
+    all_named (map.entries t.entries)
+    ∙ all_rows t lawful sound named_count
+    ∙ (λ i. primary i + rest i)
+    ∙ ap (λ cs. block_count (cells_on store (values_of t 0)) + held_by false (cells_on store (values_of t 0)) cs) (sym live)
