@@ -1,1 +1,2 @@
 pub mod OneArea
+pub mod Fronts
