@@ -1,2 +1,3 @@
 pub mod OneArea
 pub mod Fronts
+pub mod Slots
