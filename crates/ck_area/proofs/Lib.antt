@@ -1,3 +1,4 @@
 pub mod OneArea
 pub mod Fronts
 pub mod Slots
+pub mod Undamaged
