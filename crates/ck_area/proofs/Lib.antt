@@ -2,3 +2,4 @@ pub mod OneArea
 pub mod Fronts
 pub mod Slots
 pub mod Undamaged
+pub mod TableOf
