@@ -1,14 +1,18 @@
 -- Lists each of whose elements keeps something with those before it.
-use Rattle.std.proofs.Common.{◌≡◌, ◌≢◌, ℕ, Bool, true, false, cond, ◌&&◌, ◌||◌, not, List, [], ◌∷◌, ◌++◌, map as list_map, Option, Some, None, is_some, refl, sym, ap, subst, ◌∙◌, ◌⊎◌, inl, inr, append_assoc, append-nil, arith}
+use Rattle.std.proofs.Common.{◌≡◌, ◌≢◌, ℕ, Bool, true, false, T, cond, ◌&&◌, ◌||◌, not, List, [], ◌∷◌, ◌++◌, map as list_map, filter, Option, Some, None, is_some, refl, sym, ap, subst, ◌∙◌, ◌⊎◌, inl, inr, append_assoc, append-nil, arith}
 use Rattle.std.specs.Bool.{⊤}
 use Rattle.std.specs.List.{list_any, AllByRecursion}
 use Rattle.std.specs.declared.cmp.Ordering.{Ordering}
-use Rattle.std.specs.Ordering.{eq_by_cmp, is_eq}
+use Rattle.std.specs.declared.cmp.Ordering.TheVariants.{Less, Equal, Greater}
+use Rattle.std.specs.Ordering.{eq_by_cmp, is_eq, is_lt}
 use Rattle.std.specs.Cmp.{IsTotalOrder}
-use Rattle.std.specs.FinMap.{IsAntisymmetric, find}
-use Rattle.std.proofs.lemmas.Cmp.{tied_itself}
+use Rattle.std.specs.FinMap.{IsAntisymmetric, find, is_sorted}
+use Rattle.std.specs.FinMap.Entries.{below_all}
+use Rattle.std.proofs.lemmas.Cmp.{tied_itself, eq_by_cmp_equiv}
 use mathlib.Core.Bool.{false≢true}
 use Rattle.ck_model.proofs.CellsLemmas.{equal}
+use Rattle.ck_model.proofs.Rows.{head_of}
+use Rattle.ck_model.proofs.Filesets.{all_found}
 
 -- each of these keeps P with those before it, and the front stands before them all
 abbrev pub Each : {X : Type 0} → (List X → X → Type 0) → List X → List X → Type 0
@@ -20,6 +24,11 @@ Among x [] = ⊥
 Among x (y ∷ ys) = (x ≡ y) ⊎ Among x ys
 
 -- ---- tests
+
+apart : (r : Ordering) → T (is_lt r) → is_eq r ≡ false
+apart Less h = refl
+apart Equal h = absurd h
+apart Greater h = absurd h
 
 pub neither : (a b : Bool) → (a || b) ≡ false → (a ≡ false) × (b ≡ false)
 neither true b h = cc
@@ -59,6 +68,14 @@ module _ {X : Type 0} where
   pub none_passes : (p : X → Bool) (xs : List X) → ((x : X) → Among x xs → p x ≡ false) → list_any p xs ≡ false
   none_passes p [] each = refl
   none_passes p (y ∷ xs) each = none_of (p y) (list_any p xs) (each y (inl refl)) (none_passes p xs (λ x h. each x (inr h)))
+
+  pub among_filter : (p : X → Bool) (x : X) (xs : List X) → Among x xs → p x ≡ true → Among x (filter p xs)
+  among_filter p x [] h is = absurd h
+  among_filter p x (y ∷ xs) h is =
+      elim h [
+        | inl same ↦ subst (λ b. Among x (cond b (y ∷ filter p xs) (filter p xs))) (sym (ap p (sym same) ∙ is)) (inl same)
+        | inr rest ↦ elim (p y) as (λ b. Among x (cond b (y ∷ filter p xs) (filter p xs))) [ true ↦ inr (among_filter p x xs rest is) | false ↦ among_filter p x xs rest is ]
+      ]
 
   -- ---- each
 
@@ -115,6 +132,10 @@ module _ {X : Type 0} where
         ]
       ]
 
+pub among_map : {X Y : Type 0} (f : X → Y) (x : X) (xs : List X) → Among x xs → Among (f x) (list_map f xs)
+among_map f x [] h = absurd h
+among_map f x (y ∷ xs) h = elim h [ inl same ↦ inl (ap f same) | inr rest ↦ inr (among_map f x xs rest) ]
+
 -- ---- entries that are found
 
 module _ {K X : Type 0} {R : K → K → Ordering} (total : IsTotalOrder R) (exact : IsAntisymmetric R) where
@@ -141,3 +162,28 @@ module _ {K X : Type 0} {R : K → K → Ordering} (total : IsTotalOrder R) (exa
   -- where no key stands twice, each is found
   pub among_found : (x : K × X) (es : List (K × X)) → Each (λ before z. list_any (λ e. eq_by_cmp R z.0 e.0) before ≡ false) [] es → Among x es → find R x.0 es ≡ Some x.1
   among_found x es all h = found_behind x [] es all h
+
+  -- ---- entries in order
+
+  -- each of them is found
+  pub sorted_found : (x : K × X) (es : List (K × X)) → T (is_sorted R es) → Among x es → find R x.0 es ≡ Some x.1
+  sorted_found x es sorted h = all_among (λ e. find R e.0 es ≡ Some e.1) x es (all_found total exact (λ e. find R e.0 es ≡ Some e.1) es sorted (λ k v found. found)) h
+
+  below_among : (k : K) (x : K × X) (es : List (K × X)) → T (below_all R k es) → Among x es → eq_by_cmp R k x.0 ≡ false
+  below_among k x [] below h = absurd h
+  below_among k x (e ∷ es) below h =
+      let parts = head_of (is_lt (R k e.0)) (below_all R k es) below in
+      elim h [
+        | inl same ↦ ap (λ (y : K × X). eq_by_cmp R k y.0) same ∙ apart (R k e.0) parts.0
+        | inr rest ↦ below_among k x es parts.1 rest
+      ]
+
+  -- no key stands before one of them
+  pub sorted_apart : (y x : K × X) (before behind : List (K × X)) → T (is_sorted R (before ++ x ∷ behind)) → Among y before → eq_by_cmp R x.0 y.0 ≡ false
+  sorted_apart y x [] behind sorted h = absurd h
+  sorted_apart y x (e ∷ before) behind sorted h =
+      let parts = head_of (below_all R e.0 (before ++ x ∷ behind)) (is_sorted R (before ++ x ∷ behind)) sorted in
+      elim h [
+        | inl same ↦ (eq_by_cmp_equiv total).symm x.0 y.0 ∙ ap (λ (z : K × X). eq_by_cmp R z.0 x.0) same ∙ below_among e.0 x (before ++ x ∷ behind) parts.0 (among_right x before (x ∷ behind) (inl refl))
+        | inr rest ↦ sorted_apart y x before behind parts.1 rest
+      ]

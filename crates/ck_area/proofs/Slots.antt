@@ -46,6 +46,10 @@ EntryFine counters blocks t filesets before e =
 abbrev pub FilesetFine : Option Counters → List (ℕ × Fileset) → ℕ × Fileset → Type 0
 FilesetFine counters before e = breaks_fileset counters before e.0 e.1 ≡ false
 
+-- it breaks none where these stand before it
+abbrev pub IsFineWhere : ℕ → ℕ → Area → Area → Option Record → Type 0
+IsFineWhere blocks records area front x = take (length front) area ≡ front → breaks_slot blocks records area (length front) x ≡ false
+
 -- ---- no damage is that each slot is fine
 
 one_more : (front : Area) (x : Option Record) → length (front ++ x ∷ []) ≡ suc (length front)
@@ -69,16 +73,16 @@ module _ (blocks records : ℕ) (area : Area) where
   pub all_fine : damage blocks records area ≡ None → Each (IsFine blocks records area) [] area
   all_fine none = fine_from [] area refl none
 
-  undamaged_from : (front rest : Area) → area ≡ front ++ rest → Each (λ before x. breaks_slot blocks records area (length before) x ≡ false) front rest → damaged_from blocks records area (length front) (length rest) ≡ None
+  undamaged_from : (front rest : Area) → area ≡ front ++ rest → Each (IsFineWhere blocks records area) front rest → damaged_from blocks records area (length front) (length rest) ≡ None
   undamaged_from front [] same all = refl
   undamaged_from front (x ∷ rest) same all =
       let here : slot_at area (length front) ≡ x = ap (λ (a : Area). slot_at a (length front)) same ∙ get_or-append_seam front x rest None in
-      let kept : breaks blocks records area (length front) ≡ false = ap (breaks_slot blocks records area (length front)) here ∙ all.0 in
+      let kept : breaks blocks records area (length front) ≡ false = ap (breaks_slot blocks records area (length front)) here ∙ all.0 (ap (take (length front)) same ∙ take-append_seam front (x ∷ rest)) in
       ap (λ b. if b then Some (length front) else damaged_from blocks records area (suc (length front)) (length rest)) kept
       ∙ ap (λ n. damaged_from blocks records area n (length rest)) (sym (one_more front x))
       ∙ undamaged_from (front ++ x ∷ []) rest (same ∙ sym (append_assoc front (x ∷ []) rest)) all.1
 
-  pub no_damage : Each (λ before x. breaks_slot blocks records area (length before) x ≡ false) [] area → damage blocks records area ≡ None
+  pub no_damage : Each (IsFineWhere blocks records area) [] area → damage blocks records area ≡ None
   no_damage all = undamaged_from [] area refl all
 
   -- ---- the slots but the first

@@ -92,7 +92,7 @@ opposite false h = absurd (false≢true (sym h))
 
 -- ---- counting
 
-filter_same : {X : Type 0} (p q : X → Bool) (xs : List X) → ((x : X) → Among x xs → p x ≡ q x) → filter p xs ≡ filter q xs
+pub filter_same : {X : Type 0} (p q : X → Bool) (xs : List X) → ((x : X) → Among x xs → p x ≡ q x) → filter p xs ≡ filter q xs
 filter_same p q [] same = refl
 filter_same p q (x ∷ xs) same = λ i. cond (same x (inl refl) i) (x ∷ filter_same p q xs (λ y h. same y (inr h)) i) (filter_same p q xs (λ y h. same y (inr h)) i)
 
@@ -105,7 +105,7 @@ filter_twice p r (x ∷ xs) =
       | false ↦ elim (p x) as (λ c. length (filter p (filter r xs)) ≤ length (cond c (x ∷ filter p xs) (filter p xs))) [ true ↦ omega (arith, rest) | false ↦ rest ]
     ]
 
-filter_keys : {X : Type 0} (p : ℕ → Bool) (es : List (ℕ × X)) → length (filter p (list_map (λ e. e.0) es)) ≡ length (filter (λ e. p e.0) es)
+pub filter_keys : {X : Type 0} (p : ℕ → Bool) (es : List (ℕ × X)) → length (filter p (list_map (λ e. e.0) es)) ≡ length (filter (λ e. p e.0) es)
 filter_keys p [] = refl
 filter_keys p (e ∷ es) =
     elim (p e.0) as (λ b. length (cond b (e.0 ∷ filter p (list_map (λ x. x.0) es)) (filter p (list_map (λ x. x.0) es))) ≡ length (cond b (e ∷ filter (λ x. p x.0) es) (filter (λ x. p x.0) es))) [
