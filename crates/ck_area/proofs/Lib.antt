@@ -3,3 +3,4 @@ pub mod Fronts
 pub mod Slots
 pub mod Undamaged
 pub mod TableOf
+pub mod Lawful
