@@ -103,6 +103,14 @@ filter_all : {X : Type 0} (p : X → Bool) (xs : List X) → ((x : X) → Among 
 filter_all p [] all = refl
 filter_all p (x ∷ xs) all = (λ i. cond (all x (inl refl) i) (x ∷ filter p xs) (filter p xs)) ∙ ap (λ l. x ∷ l) (filter_all p xs (λ y h. all y (inr h)))
 
+-- ---- what stands in a table's lists
+
+pub entry_there : (t : Table) (e : (ℕ × Key) × Held) → Among e (map.entries t.entries) → column t e.0.1 e.0.0 ≡ Some e.1
+entry_there t e h = map.get-entries t.entries e.0 ∙ sorted_found entry_cmp_total entry_cmp_exact e (map.entries t.entries) (entries_sorted t.entries) h
+
+pub fileset_there : (t : Table) (e : ℕ × Fileset) → Among e (map.entries t.filesets) → map.get t.filesets e.0 ≡ Some e.1
+fileset_there t e h = map.get-entries t.filesets e.0 ∙ sorted_found nat_cmp_total nat_cmp-IsAntisymmetric e (map.entries t.filesets) (entries_sorted t.filesets) h
+
 -- ---- a sound table
 
 module _ (t : Table) (lawful : IsTable t) (sound : IsSound t) where
@@ -112,20 +120,14 @@ module _ (t : Table) (lawful : IsTable t) (sound : IsSound t) where
   abbrev fsx : List (ℕ × Fileset)
   fsx = map.entries t.filesets
 
-  entry_there : (e : (ℕ × Key) × Held) → Among e es → column t e.0.1 e.0.0 ≡ Some e.1
-  entry_there e h = map.get-entries t.entries e.0 ∙ sorted_found entry_cmp_total entry_cmp_exact e es (entries_sorted t.entries) h
-
-  pub fileset_there : (e : ℕ × Fileset) → Among e fsx → map.get t.filesets e.0 ≡ Some e.1
-  fileset_there e h = map.get-entries t.filesets e.0 ∙ sorted_found nat_cmp_total nat_cmp-IsAntisymmetric e fsx (entries_sorted t.filesets) h
-
   -- ---- filesets
 
   module _ (before : List (ℕ × Fileset)) (x : ℕ × Fileset) (behind : List (ℕ × Fileset)) (parted : before ++ x ∷ behind ≡ fsx) where
     this_fileset : map.get t.filesets x.0 ≡ Some x.1
-    this_fileset = fileset_there x (subst (Among x) parted (among_right x before (x ∷ behind) (inl refl)))
+    this_fileset = fileset_there t x (subst (Among x) parted (among_right x before (x ∷ behind) (inl refl)))
 
     lower_fileset : (y : ℕ × Fileset) → Among y before → map.get t.filesets y.0 ≡ Some y.1
-    lower_fileset y h = fileset_there y (subst (Among y) parted (among_left y before (x ∷ behind) h))
+    lower_fileset y h = fileset_there t y (subst (Among y) parted (among_left y before (x ∷ behind) h))
 
     other_id : (y : ℕ × Fileset) → Among y before → nat_eq x.0 y.0 ≡ false
     other_id y h = other_number x.0 y.0 (sorted_apart nat_cmp_total nat_cmp-IsAntisymmetric y x before behind (subst (λ l. T (is_sorted nat_cmp l)) (sym parted) (entries_sorted t.filesets)) h)
@@ -147,10 +149,10 @@ module _ (t : Table) (lawful : IsTable t) (sound : IsSound t) where
     id_below = let below : x.0 < t.counters.id = sound.orderly.ids x.0 (ap is_some this_fileset) in grind (arith, nat_tests)
 
   live_alike : (e : ℕ × Fileset) → Among e fsx → is_live t e.0 ≡ not e.1.gone
-  live_alike e h = ap (λ o. option_map_or (λ (fileset : Fileset). not fileset.gone) o false) (fileset_there e h)
+  live_alike e h = ap (λ o. option_map_or (λ (fileset : Fileset). not fileset.gone) o false) (fileset_there t e h)
 
   some_id : (e : ℕ × Fileset) → Among e fsx → nat_lt 0 e.0 ≡ true
-  some_id e h = let some : 1 ≤ e.0 = (lawful.filesets e.0 e.1 (fileset_there e h)).some in grind (arith, nat_tests)
+  some_id e h = let some : 1 ≤ e.0 = (lawful.filesets e.0 e.1 (fileset_there t e h)).some in grind (arith, nat_tests)
 
   key_of : (id : ℕ) (l : List (ℕ × Fileset)) → ((e : ℕ × Fileset) → Among e l → nat_lt 0 e.0 ≡ true) → Among id (list_map (λ e. e.0) l) → nat_lt 0 id ≡ true
   key_of id [] each h = absurd h
@@ -182,7 +184,7 @@ module _ (t : Table) (lawful : IsTable t) (sound : IsSound t) where
   -- at or below this id no checkpoint keeps data
   from_no_data : (fs : ℕ) → keeps_data t fs ≡ false → data_upto fsx fs ≡ false
   from_no_data fs none = none_passes (λ e. nat_le e.0 fs && (not e.1.gone && keeps_files e.1.kind)) fsx (λ e h.
-      let keeping : is_live_data t e.0 ≡ (not e.1.gone && keeps_files e.1.kind) = ap (λ o. option_map_or (λ (fileset : Fileset). not fileset.gone && keeps_files fileset.kind) o false) (fileset_there e h) in
+      let keeping : is_live_data t e.0 ≡ (not e.1.gone && keeps_files e.1.kind) = ap (λ o. option_map_or (λ (fileset : Fileset). not fileset.gone && keeps_files fileset.kind) o false) (fileset_there t e h) in
       let there : Among e.0 (newer t 0) = among_filter (λ id. nat_lt 0 id) e.0 (map.keys t.filesets) (among_map (λ x. x.0) e fsx h) (some_id e h) in
       ap (λ b. nat_le e.0 fs && b) (sym keeping) ∙ passes_none (λ id. nat_le id fs && is_live_data t id) e.0 (newer t 0) none there)
 
@@ -206,10 +208,10 @@ module _ (t : Table) (lawful : IsTable t) (sound : IsSound t) where
 
   module _ (before : List ((ℕ × Key) × Held)) (x : (ℕ × Key) × Held) (behind : List ((ℕ × Key) × Held)) (parted : before ++ x ∷ behind ≡ es) where
     this : column t x.0.1 x.0.0 ≡ Some x.1
-    this = entry_there x (subst (Among x) parted (among_right x before (x ∷ behind) (inl refl)))
+    this = entry_there t x (subst (Among x) parted (among_right x before (x ∷ behind) (inl refl)))
 
     lower : (y : (ℕ × Key) × Held) → Among y before → column t y.0.1 y.0.0 ≡ Some y.1
-    lower y h = entry_there y (subst (Among y) parted (among_left y before (x ∷ behind) h))
+    lower y h = entry_there t y (subst (Among y) parted (among_left y before (x ∷ behind) h))
 
     other_place : (y : (ℕ × Key) × Held) → Among y before → eq_by_cmp entry_cmp x.0 y.0 ≡ false
     other_place y h = sorted_apart entry_cmp_total entry_cmp_exact y x before behind (subst (λ l. T (is_sorted entry_cmp l)) (sym parted) (entries_sorted t.entries)) h

@@ -4,3 +4,4 @@ pub mod Slots
 pub mod Undamaged
 pub mod TableOf
 pub mod Lawful
+pub mod Written
