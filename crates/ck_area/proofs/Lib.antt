@@ -5,3 +5,4 @@ pub mod Undamaged
 pub mod TableOf
 pub mod Lawful
 pub mod Written
+pub mod NewTable

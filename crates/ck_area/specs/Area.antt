@@ -3,7 +3,10 @@ use Rattle.std.specs.Prelude.{◌≡◌, ◌≢◌, ◌<◌, ◌*◌, ◌/◌, �
 use Rattle.std.specs.Option.{option_and_then, unwrap_or}
 use Rattle.std.specs.FinMap as map
 use Rattle.ck_model.specs.declared.key.Key.{Key}
+use Rattle.ck_model.specs.declared.key.Key.TheVariants.{Node}
 use Rattle.ck_model.specs.declared.held.Held.{Held}
+use Rattle.ck_model.specs.declared.held.Held.TheVariants.{Plain}
+use Rattle.ck_model.specs.declared.held.Small.TheVariants.{Dir}
 use Rattle.ck_model.specs.declared.checkpoint.Counters.{Counters}
 use Rattle.ck_model.specs.declared.checkpoint.Fileset.{Fileset}
 use Rattle.ck_model.specs.Table.{Table}
@@ -93,3 +96,15 @@ records_of t = list_map (λ e. FilesetRecord e.0 e.1) (map.entries t.filesets) +
 -- the counters, the records without a gap, and free slots up to this number
 abbrev pub written_as : ℕ → Table → Area
 written_as slots t = list_map (λ value. Some value) (CountersRecord t.counters ∷ records_of t) ++ replicate (slots - (1 + length (records_of t))) (Some Free)
+
+-- ---- the first table of a volume
+
+-- the root directory's node alone, with the first numbers
+abbrev pub new_table : ℕ → ℕ → Table
+new_table blocks records = record {
+  entries = map.insert map.empty (0, Node 0) (Plain 0 Dir);
+  filesets = map.empty;
+  counters = record { stamp = 1; id = 1; number = 1 };
+  blocks = blocks;
+  records = records;
+}
