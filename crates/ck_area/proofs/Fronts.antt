@@ -1,5 +1,5 @@
 -- Lists each of whose elements keeps something with those before it.
-use Rattle.std.proofs.Common.{◌≡◌, ◌≢◌, ℕ, Bool, true, false, T, cond, ◌&&◌, ◌||◌, not, List, [], ◌∷◌, ◌++◌, map as list_map, filter, Option, Some, None, is_some, refl, sym, ap, subst, ◌∙◌, ◌⊎◌, inl, inr, append_assoc, append-nil, arith}
+use Rattle.std.proofs.Common.{◌≡◌, Bool, true, false, T, cond, ◌||◌, List, [], ◌∷◌, ◌++◌, map as list_map, filter, Some, is_some, refl, sym, ap, subst, ◌∙◌, ◌⊎◌, inl, inr, append_assoc, append-nil}
 use Rattle.std.specs.Bool.{⊤}
 use Rattle.std.specs.List.{list_any, AllByRecursion}
 use Rattle.std.specs.declared.cmp.Ordering.{Ordering}
@@ -91,9 +91,10 @@ module _ {X : Type 0} where
   -- what is so wherever the list is parted is so of each
   pub each_where : (P : List X → X → Type 0) (front xs : List X) → ((before : List X) (x : X) (behind : List X) → before ++ x ∷ behind ≡ front ++ xs → P before x) → Each P front xs
   each_where P front [] parted = tt
-  each_where P front (x ∷ xs) parted =
-      (parted front x xs refl,
-      each_where P (front ++ x ∷ []) xs (λ before y behind same. parted before y behind (same ∙ append_assoc front (x ∷ []) xs)))
+  each_where P front (x ∷ xs) parted = (
+    parted front x xs refl,
+    each_where P (front ++ x ∷ []) xs (λ before y behind same. parted before y behind (same ∙ append_assoc front (x ∷ []) xs)),
+  )
 
   -- those before one of them
   pub record Before (P : List X → X → Type 0) (x : X) : Type 0 where

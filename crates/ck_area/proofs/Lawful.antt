@@ -1,11 +1,9 @@
 -- The entries and filesets of a sound table, in their order, break no rule of the slots.
-use Rattle.std.proofs.Common.{◌≡◌, ◌≢◌, ℕ, suc, ◌+◌, ◌<◌, ◌≤◌, Bool, true, false, cond, T, ◌&&◌, ◌||◌, not, nat_lt, nat_le, nat_eq, List, [], ◌∷◌, ◌++◌, map as list_map, filter, length, length-append, Option, Some, None, IsSome, IfSome, IsSomeAnd, is_some, if◌then◌else◌, refl, sym, ap, subst, ◌∙◌, ◌⊎◌, inl, inr, arith}
-use Rattle.std.specs.Bool.{⊤}
+use Rattle.std.proofs.Common.{◌≡◌, ◌≢◌, ℕ, ◌+◌, ◌<◌, ◌≤◌, Bool, true, false, cond, T, ◌&&◌, ◌||◌, not, nat_lt, nat_le, nat_eq, List, [], ◌∷◌, ◌++◌, map as list_map, filter, length, length-append, Option, Some, None, IsSome, IfSome, IsSomeAnd, is_some, refl, sym, ap, subst, ◌∙◌, ◌⊎◌, inl, inr, arith}
 use Rattle.std.specs.Ordering.{nat_cmp, eq_by_cmp, is_eq}
 use Rattle.std.specs.Cmp.Lexicographic.{pointwise, same_text}
 use Rattle.std.specs.Option.{option_map_or}
-use Rattle.std.specs.List.{list_any}
-use Rattle.std.specs.FinMap.{nat_cmp-IsAntisymmetric, is_sorted, entries_sorted, find}
+use Rattle.std.specs.FinMap.{nat_cmp-IsAntisymmetric, is_sorted, entries_sorted}
 use Rattle.std.specs.FinMap as map
 use Rattle.std.proofs.lemmas.Bool.Decides.{nat_tests}
 use Rattle.std.proofs.lemmas.Cmp.{nat_cmp_total, tied_itself}
@@ -21,9 +19,9 @@ use Rattle.ck_model.specs.Key.{key_cmp, entry_cmp, entry_cmp_total, entry_cmp_ex
 use Rattle.ck_model.specs.Table.{Table, IsTable, column, newer}
 use Rattle.ck_model.specs.World.{keeps_files}
 use Rattle.ck_model.specs.Chain.{is_live, is_gone, is_live_data, live_ids, keeps_data}
-use Rattle.ck_model.specs.Rules.{IsSound, IsOwn, IsNeeded, KeyBelow, HeldBelow, first_holder, stamp_in, block_in}
+use Rattle.ck_model.specs.Rules.{IsSound, IsOwn, KeyBelow, HeldBelow, first_holder, stamp_in, block_in}
 use Rattle.ck_model.proofs.CellsLemmas.{tied-is}
-use Rattle.ck_area.specs.Damage.{is_alike, has_place, has_version, has_block, has_fileset, live_count, is_id_past, is_stamp_past, is_number_past, number_in, node_in, data_upto, is_absent, is_needed_by, is_needless, is_misplaced, breaks_fileset, breaks_lower, breaks_whole}
+use Rattle.ck_area.specs.Damage.{is_alike, has_place, has_version, has_block, has_fileset, live_count, is_id_past, is_number_past, number_in, node_in, data_upto, is_absent, is_needed_by, is_misplaced, breaks_lower, breaks_whole}
 use Rattle.ck_area.proofs.Fronts.{Each, Among, none_of, passes_none, none_passes, each_where, among_left, among_right, among_map, among_filter, sorted_found, sorted_apart}
 use Rattle.ck_area.proofs.Slots.{EntryFine, FilesetFine}
 use Rattle.ck_area.proofs.Undamaged.{filter_same, filter_keys}

@@ -6,3 +6,5 @@ pub mod TableOf
 pub mod Lawful
 pub mod Written
 pub mod NewTable
+pub mod NewWorld
+pub mod Damaged

@@ -1,5 +1,5 @@
 -- The first table of a volume, and the area that it is written as.
-use Rattle.std.proofs.Common.{◌≡◌, ℕ, ◌+◌, ◌-◌, ◌<◌, ◌≤◌, ◌^◌, lit<, lit≤, List, [], ◌∷◌, ◌++◌, map as list_map, length, Option, Some, None, is_some, refl, sym, ap, subst, ◌∙◌, ◌⊎◌, inl, inr, arith}
+use Rattle.std.proofs.Common.{◌≡◌, ℕ, ◌+◌, ◌-◌, ◌≤◌, lit<, lit≤, List, [], ◌∷◌, ◌++◌, map as list_map, length, Some, is_some, refl, sym, ap, subst, ◌∙◌, inl, inr, arith}
 use Rattle.std.specs.Prelude.{replicate}
 use Rattle.std.specs.Ordering.{nat_cmp}
 use Rattle.std.specs.FinMap.{put}
@@ -15,12 +15,12 @@ use Rattle.ck_model.specs.declared.held.Small.TheVariants.{Dir}
 use Rattle.ck_model.specs.declared.checkpoint.Counters.{Counters}
 use Rattle.ck_model.specs.declared.checkpoint.Fileset.{Fileset}
 use Rattle.ck_model.specs.Key.{entry_cmp, entry_cmp_total}
-use Rattle.ck_model.specs.Held.{IsWord, IsEntry, IsFileset}
-use Rattle.ck_model.specs.Table.{Table, IsTable, IsSized, column, record_count}
+use Rattle.ck_model.specs.Held.{IsWord, IsEntry}
+use Rattle.ck_model.specs.Table.{IsTable, IsSized, record_count}
 use Rattle.ck_model.specs.Rules.{IsSound}
 use Rattle.ck_record.specs.declared.records.Record.{Record}
 use Rattle.ck_record.specs.declared.records.Record.TheVariants.{Free, Counters as CountersRecord, Fileset as FilesetRecord, Entry}
-use Rattle.ck_area.specs.Area.{Area, records_of, written_as, new_table}
+use Rattle.ck_area.specs.Area.{records_of, written_as, new_table}
 use Rattle.ck_area.proofs.Fronts.{Among}
 use Rattle.ck_area.proofs.Undamaged.{entry_among, sound}
 

@@ -1,8 +1,7 @@
 -- The slots of the same blocks are the same.
-use Rattle.std.proofs.Common.{◌≡◌, ◌≢◌, ℕ, ◌<◌, ◌*◌, List, length, get_or, Option, Some, None, refl, sym, ap, subst, ◌∙◌, arith}
+use Rattle.std.proofs.Common.{◌≡◌, ℕ, ◌<◌, List, length, Option, Some, None, refl, sym, ap, subst, ◌∙◌}
 use Rattle.std.proofs.lemmas.List.{same_lists, get_or_default}
 use Rattle.ck_record.specs.declared.records.Record.{Record}
-use Rattle.ck_record.specs.Record.{IsRecord, spelling}
 use Rattle.ck_record.proofs.OneRecord.{same_records}
 use Rattle.ck_area.specs.Area.{Blocks, Area, IsReadAs, AreSlots, slot_at, slot_bytes}
 

@@ -1,6 +1,5 @@
 -- What the slots of an area without damage keep, and the entries and filesets in them.
-use Rattle.std.proofs.Common.{◌≡◌, ℕ, suc, zero, ◌+◌, ◌-◌, ◌<◌, ◌≤◌, Bool, true, false, cond, ◌&&◌, ◌||◌, not, nat_lt, List, [], ◌∷◌, ◌++◌, length, take, get_or, Option, Some, None, IsSome, is_some, if◌then◌else◌, refl, sym, ap, subst, ◌∙◌, append_assoc, append-nil, length-append, arith}
-use Rattle.std.specs.Bool.{⊤}
+use Rattle.std.proofs.Common.{◌≡◌, ℕ, suc, ◌+◌, ◌-◌, ◌≤◌, Bool, true, false, ◌&&◌, ◌||◌, nat_lt, List, [], ◌∷◌, ◌++◌, length, take, Option, Some, None, IsSome, is_some, if◌then◌else◌, refl, sym, ap, subst, ◌∙◌, append_assoc, append-nil, length-append, arith}
 use Rattle.std.specs.List.{AllByRecursion}
 use Rattle.std.proofs.lemmas.Bool.Decides.{nat_tests}
 use Rattle.std.proofs.Math.Seq.{get_or-append_seam, take-append_seam}
@@ -62,12 +61,13 @@ module _ (blocks records : ℕ) (area : Area) where
       let here : slot_at area (length front) ≡ x = ap (λ (a : Area). slot_at a (length front)) same ∙ get_or-append_seam front x rest None in
       let before : take (length front) area ≡ front = ap (take (length front)) same ∙ take-append_seam front (x ∷ rest) in
       elim (breaks blocks records area (length front)) as (λ b. breaks blocks records area (length front) ≡ b
-          → (if b then Some (length front) else damaged_from blocks records area (suc (length front)) (length rest)) ≡ None → Each (IsFine blocks records area) front (x ∷ rest)) [
+      → (if b then Some (length front) else damaged_from blocks records area (suc (length front)) (length rest)) ≡ None → Each (IsFine blocks records area) front (x ∷ rest)) [
         | true ↦ λ _ clash. absurd (false≢true (ap is_some (sym clash)))
         | false ↦ λ kept none. (
-            record { fine = ap (breaks_slot blocks records area (length front)) (sym here) ∙ kept; before = before },
-            fine_from (front ++ x ∷ []) rest (same ∙ sym (append_assoc front (x ∷ []) rest))
-            (ap (λ n. damaged_from blocks records area n (length rest)) (one_more front x) ∙ none))
+          record { fine = ap (breaks_slot blocks records area (length front)) (sym here) ∙ kept; before = before },
+          fine_from (front ++ x ∷ []) rest (same ∙ sym (append_assoc front (x ∷ []) rest))
+              (ap (λ n. damaged_from blocks records area n (length rest)) (one_more front x) ∙ none),
+        )
       ] refl none
 
   pub all_fine : damage blocks records area ≡ None → Each (IsFine blocks records area) [] area
@@ -120,9 +120,10 @@ module _ (blocks records : ℕ) (area : Area) where
       subst (λ l. Entries l (entries_in rest)) (entries_in-more (y ∷ front) (Some (CountersRecord c)) ∙ append-nil (entries_in (y ∷ front))) (entries_fine y (front ++ Some (CountersRecord c) ∷ []) rest all.1)
   entries_fine y front (Some (FilesetRecord id f) ∷ rest) all =
       subst (λ l. Entries l (entries_in rest)) (entries_in-more (y ∷ front) (Some (FilesetRecord id f)) ∙ append-nil (entries_in (y ∷ front))) (entries_fine y (front ++ Some (FilesetRecord id f) ∷ []) rest all.1)
-  entries_fine y front (Some (Entry fs key held) ∷ rest) all =
-      (entry_fine y front fs key held all.0,
-      subst (λ l. Entries l (entries_in rest)) (entries_in-more (y ∷ front) (Some (Entry fs key held))) (entries_fine y (front ++ Some (Entry fs key held) ∷ []) rest all.1))
+  entries_fine y front (Some (Entry fs key held) ∷ rest) all = (
+    entry_fine y front fs key held all.0,
+    subst (λ l. Entries l (entries_in rest)) (entries_in-more (y ∷ front) (Some (Entry fs key held))) (entries_fine y (front ++ Some (Entry fs key held) ∷ []) rest all.1),
+  )
 
   pub filesets_fine : (y : Option Record) (front rest : Area) → Each (IsFine blocks records area) (y ∷ front) rest → Filesets (filesets_in (y ∷ front)) (filesets_in rest)
   filesets_fine y front [] all = tt
@@ -131,9 +132,10 @@ module _ (blocks records : ℕ) (area : Area) where
       subst (λ l. Filesets l (filesets_in rest)) (filesets_in-more (y ∷ front) (Some Free) ∙ append-nil (filesets_in (y ∷ front))) (filesets_fine y (front ++ Some Free ∷ []) rest all.1)
   filesets_fine y front (Some (CountersRecord c) ∷ rest) all =
       subst (λ l. Filesets l (filesets_in rest)) (filesets_in-more (y ∷ front) (Some (CountersRecord c)) ∙ append-nil (filesets_in (y ∷ front))) (filesets_fine y (front ++ Some (CountersRecord c) ∷ []) rest all.1)
-  filesets_fine y front (Some (FilesetRecord id f) ∷ rest) all =
-      (fileset_fine y front id f all.0,
-      subst (λ l. Filesets l (filesets_in rest)) (filesets_in-more (y ∷ front) (Some (FilesetRecord id f))) (filesets_fine y (front ++ Some (FilesetRecord id f) ∷ []) rest all.1))
+  filesets_fine y front (Some (FilesetRecord id f) ∷ rest) all = (
+    fileset_fine y front id f all.0,
+    subst (λ l. Filesets l (filesets_in rest)) (filesets_in-more (y ∷ front) (Some (FilesetRecord id f))) (filesets_fine y (front ++ Some (FilesetRecord id f) ∷ []) rest all.1),
+  )
   filesets_fine y front (Some (Entry fs key held) ∷ rest) all =
       subst (λ l. Filesets l (filesets_in rest)) (filesets_in-more (y ∷ front) (Some (Entry fs key held)) ∙ append-nil (filesets_in (y ∷ front))) (filesets_fine y (front ++ Some (Entry fs key held) ∷ []) rest all.1)
 

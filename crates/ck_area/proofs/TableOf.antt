@@ -1,28 +1,25 @@
 -- The table of an area without damage is one that a volume may have.
-use Rattle.std.proofs.Common.{◌≡◌, ◌≢◌, ℕ, zero, suc, ◌+◌, ◌*◌, ◌<◌, ◌≤◌, ◌^◌, lit<, lit≤, List, [], ◌∷◌, ◌++◌, length, get_or, Option, Some, None, IsSome, IfSome, is_some, refl, sym, ap, subst, ◌∙◌, ◌⊎◌, inl, inr, arith}
-use Rattle.std.specs.Bool.{⊤}
+use Rattle.std.proofs.Common.{◌≡◌, ℕ, zero, suc, ◌+◌, ◌<◌, ◌≤◌, lit<, lit≤, List, [], ◌∷◌, length, get_or, Option, Some, None, IsSome, IfSome, refl, sym, subst, inl, inr, arith}
 use Rattle.std.specs.List.{AllByRecursion}
 use Rattle.std.specs.Option.{unwrap_or}
-use Rattle.std.specs.Ordering.{nat_cmp}
 use Rattle.std.specs.FinMap.{nat_cmp-IsAntisymmetric}
-use Rattle.std.specs.FinMap as map
 use Rattle.std.proofs.lemmas.Cmp.{nat_cmp_total}
 use mathlib.Core.Bool.{false≢true}
 use Rattle.ck_model.specs.declared.key.Key.{Key}
 use Rattle.ck_model.specs.declared.held.Held.{Held}
 use Rattle.ck_model.specs.declared.checkpoint.Counters.{Counters}
 use Rattle.ck_model.specs.declared.checkpoint.Fileset.{Fileset}
-use Rattle.ck_model.specs.Key.{entry_cmp, entry_cmp_total, entry_cmp_exact}
+use Rattle.ck_model.specs.Key.{entry_cmp_total, entry_cmp_exact}
 use Rattle.ck_model.specs.Held.{IsWord, IsEntry, IsCounters, IsFileset}
-use Rattle.ck_model.specs.Table.{Table, IsTable, IsSized, record_count}
+use Rattle.ck_model.specs.Table.{IsTable, IsSized, record_count}
 use Rattle.ck_model.specs.Rules.{IsSound}
 use Rattle.ck_record.specs.declared.records.Record.{Record}
 use Rattle.ck_record.specs.declared.records.Record.TheVariants.{Free, Counters as CountersRecord, Fileset as FilesetRecord, Entry}
 use Rattle.ck_record.specs.Record.{IsRecord}
 use Rattle.ck_area.specs.Area.{Blocks, Area, AreSlots, IsReadAs, slot_at, slot_bytes, entries_in, filesets_in, counters_by, counters_in, no_counters, table_of}
 use Rattle.ck_area.specs.Damage.{damage}
-use Rattle.ck_area.proofs.Fronts.{Each, Among}
-use Rattle.ck_area.proofs.Slots.{IsFine, all_fine, entries_fine, filesets_fine, count_fine, slots_some}
+use Rattle.ck_area.proofs.Fronts.{Among}
+use Rattle.ck_area.proofs.Slots.{all_fine, entries_fine, filesets_fine, count_fine, slots_some}
 use Rattle.ck_area.proofs.Undamaged.{len-from_entries-le, entry_among, fileset_among, sound}
 
 -- each slot that has a record has one within the limits

@@ -1,14 +1,13 @@
 -- A table whose entries and filesets break no rule of the slots is one that every volume may have.
-use Rattle.std.proofs.Common.{◌≡◌, ◌≢◌, ℕ, suc, ◌+◌, ◌<◌, ◌≤◌, Bool, true, false, cond, ◌&&◌, ◌||◌, not, nat_lt, nat_le, nat_eq, List, [], ◌∷◌, ◌++◌, map as list_map, filter, length, length-append, Option, Some, None, IsSome, IfSome, IsSomeAnd, is_some, if◌then◌else◌, refl, sym, ap, subst, ◌∙◌, ◌⊎◌, inl, inr, append_assoc, append-nil, arith}
-use Rattle.std.specs.Bool.{⊤}
+use Rattle.std.proofs.Common.{◌≡◌, ◌≢◌, ℕ, suc, ◌+◌, ◌<◌, ◌≤◌, Bool, true, false, cond, ◌&&◌, ◌||◌, not, nat_lt, nat_le, nat_eq, List, [], ◌∷◌, ◌++◌, map as list_map, filter, length, length-append, Option, Some, None, IsSome, IfSome, IsSomeAnd, is_some, refl, sym, ap, subst, ◌∙◌, ◌⊎◌, inl, inr, append_assoc, append-nil, arith}
 use Rattle.std.specs.declared.cmp.Ordering.{Ordering}
 use Rattle.std.specs.declared.cmp.Ordering.TheVariants.{Equal}
 use Rattle.std.specs.Ordering.{nat_cmp, eq_by_cmp, is_eq}
 use Rattle.std.specs.Cmp.{IsTotalOrder}
 use Rattle.std.specs.Cmp.Lexicographic.{pointwise}
 use Rattle.std.specs.Option.{option_map_or}
-use Rattle.std.specs.List.{list_any, AllByRecursion}
-use Rattle.std.specs.FinMap.{IsAntisymmetric, nat_cmp-IsAntisymmetric, find}
+use Rattle.std.specs.List.{list_any}
+use Rattle.std.specs.FinMap.{IsAntisymmetric, nat_cmp-IsAntisymmetric}
 use Rattle.std.specs.FinMap.Entries.{find-where_key}
 use Rattle.std.specs.FinMap as map
 use Rattle.std.proofs.lemmas.Bool.Decides.{nat_tests}
@@ -22,13 +21,13 @@ use Rattle.ck_model.specs.declared.held.Held.TheVariants.{Absent, Plain, Extent,
 use Rattle.ck_model.specs.declared.held.Small.TheVariants.{To, File, Dir}
 use Rattle.ck_model.specs.declared.checkpoint.Counters.{Counters}
 use Rattle.ck_model.specs.declared.checkpoint.Fileset.{Fileset}
-use Rattle.ck_model.specs.Key.{key_cmp, entry_cmp, key_cmp_total, entry_cmp_total, entry_cmp_exact}
+use Rattle.ck_model.specs.Key.{key_cmp, key_cmp_total, entry_cmp_total, entry_cmp_exact}
 use Rattle.ck_model.specs.Table.{Table, column, newer}
 use Rattle.ck_model.specs.World.{keeps_files}
 use Rattle.ck_model.specs.Chain.{is_live, is_gone, is_live_data, live_ids, keeps_data}
-use Rattle.ck_model.specs.Rules.{IsOrderly, IsSound, IsOwn, IsNeeded, KeyBelow, HeldBelow, first_holder, stamp_in, block_in}
+use Rattle.ck_model.specs.Rules.{IsOrderly, IsSound, IsOwn, KeyBelow, HeldBelow, first_holder, stamp_in, block_in}
 use Rattle.ck_model.proofs.Sizes.{len-retain_keys, len-insert-le}
-use Rattle.ck_area.specs.Damage.{is_alike, has_place, has_version, has_block, has_fileset, live_count, is_id_past, is_stamp_past, is_number_past, number_in, node_in, data_upto, is_absent, is_needed_by, is_needless, is_misplaced, breaks_fileset, breaks_lower, breaks_whole}
+use Rattle.ck_area.specs.Damage.{is_alike, has_place, has_version, has_block, has_fileset, live_count, is_id_past, is_stamp_past, is_number_past, number_in, node_in, data_upto, is_absent, is_needed_by, is_misplaced}
 use Rattle.ck_area.proofs.Fronts.{Each, Among, Before, neither, passes_none, none_passes, each_then, each_among, one_or_apart, found_among, among_found}
 use Rattle.ck_area.proofs.Slots.{EntryFine, FilesetFine}
 
@@ -197,7 +196,7 @@ module _ (c : Counters) (blocks records : ℕ) (es : List ((ℕ × Key) × Held)
     no_id : (before : List (ℕ × Fileset)) (z : ℕ × Fileset) → KeptFileset before z → list_any (λ e. eq_by_cmp nat_cmp z.0 e.0) before ≡ false
     no_id before z k = none_passes (λ e. eq_by_cmp nat_cmp z.0 e.0) before (λ x h.
         let apart : nat_eq z.0 x.0 ≡ false = (neither (nat_eq z.0 x.0) (not z.1.gone && not x.1.gone && pointwise nat_eq z.1.name x.1.name)
-            (passes_none (λ e. nat_eq z.0 e.0 || (not z.1.gone && not e.1.gone && pointwise nat_eq z.1.name e.1.name)) x before k.new h)).0 in
+        (passes_none (λ e. nat_eq z.0 e.0 || (not z.1.gone && not e.1.gone && pointwise nat_eq z.1.name e.1.name)) x before k.new h)).0 in
         other_number z.0 x.0 apart)
 
     -- each fileset of the list is found under its id
@@ -210,7 +209,7 @@ module _ (c : Counters) (blocks records : ℕ) (es : List ((ℕ × Key) × Held)
     same_name a b one two same h =
         let rest = neither _ _ h in
         let passes : (not a.1.gone && not b.1.gone && pointwise nat_eq a.1.name b.1.name) ≡ true =
-            (λ i. not (one i) && not (two i) && pointwise nat_eq (same i) b.1.name) ∙ nat_list_eq_equiv.refl b.1.name in
+        (λ i. not (one i) && not (two i) && pointwise nat_eq (same i) b.1.name) ∙ nat_list_eq_equiv.refl b.1.name in
         false≢true (sym rest.1 ∙ passes)
 
     names : (a b : ℕ) (f g : Fileset) → map.get made.filesets a ≡ Some f → map.get made.filesets b ≡ Some g → f.gone ≡ false → g.gone ≡ false → f.name ≡ g.name → a ≡ b

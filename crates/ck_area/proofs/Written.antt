@@ -1,5 +1,5 @@
 -- The area that a sound table is written as has no damage, and is read as that table.
-use Rattle.std.proofs.Common.{◌≡◌, ℕ, zero, suc, ◌+◌, ◌-◌, ◌*◌, ◌/◌, ◌<◌, ◌≤◌, Bool, true, false, ◌&&◌, ◌||◌, not, nat_lt, List, [], ◌∷◌, ◌++◌, map as list_map, length, length-append, take, Option, Some, None, IfSome, refl, sym, ap, subst, ◌∙◌, append_assoc, append-nil, arith}
+use Rattle.std.proofs.Common.{◌≡◌, ℕ, zero, suc, ◌+◌, ◌-◌, ◌*◌, ◌/◌, ◌≤◌, Bool, true, false, ◌&&◌, nat_lt, List, [], ◌∷◌, ◌++◌, map as list_map, length, length-append, Option, Some, None, IfSome, refl, sym, ap, subst, ◌∙◌, append_assoc, append-nil, arith}
 use Rattle.std.specs.Prelude.{replicate}
 use Rattle.std.specs.Bool.{⊤}
 use Rattle.std.specs.List.{list_any, AllByRecursion}
@@ -18,18 +18,18 @@ use Rattle.ck_model.specs.declared.checkpoint.Counters.{Counters}
 use Rattle.ck_model.specs.declared.checkpoint.Fileset.{Fileset}
 use Rattle.ck_model.specs.Key.{entry_cmp, entry_cmp_total, entry_cmp_exact}
 use Rattle.ck_model.specs.Held.{IsWord, IsEntry, IsFileset}
-use Rattle.ck_model.specs.Table.{Table, IsTable, IsSized, column, record_count}
+use Rattle.ck_model.specs.Table.{Table, IsTable, IsSized, record_count}
 use Rattle.ck_model.specs.Rules.{IsSound}
 use Rattle.ck_model.proofs.Filesets.{all_found}
 use Rattle.ck_record.specs.declared.records.Record.{Record}
 use Rattle.ck_record.specs.declared.records.Record.TheVariants.{Free, Counters as CountersRecord, Fileset as FilesetRecord, Entry}
 use Rattle.ck_record.specs.Record.{IsRecord}
-use Rattle.ck_area.specs.Area.{Area, entries_by, filesets_by, entries_in, filesets_in, counters_in, no_counters, table_of, records_of, written_as}
-use Rattle.ck_area.specs.Damage.{breaks_fileset, breaks_lower, breaks_whole, breaks_slot, damage, is_unbuilt_form, is_unbuilt}
-use Rattle.ck_area.proofs.Fronts.{Each, Among, none_of, none_passes, passes_none, each_append}
+use Rattle.ck_area.specs.Area.{Area, entries_in, filesets_in, counters_in, no_counters, table_of, records_of, written_as}
+use Rattle.ck_area.specs.Damage.{breaks_fileset, breaks_lower, damage, is_unbuilt_form, is_unbuilt}
+use Rattle.ck_area.proofs.Fronts.{Each, none_of, none_passes, passes_none}
 use Rattle.ck_area.proofs.Slots.{IsFineWhere, EntryFine, FilesetFine, entries_in-append, filesets_in-append, entries_in-more, filesets_in-more, no_damage}
 use Rattle.ck_area.proofs.Undamaged.{fileset_among}
-use Rattle.ck_area.proofs.Lawful.{fileset_there, entry_there, filesets_lawful, entries_lawful}
+use Rattle.ck_area.proofs.Lawful.{fileset_there, filesets_lawful, entries_lawful}
 use Rattle.ck_area.proofs.TableOf.{AreRecords}
 
 -- ---- the parts of an area
@@ -135,6 +135,10 @@ length_written slots t fits =
 pub room_written : (t : Table) → IsSized t → 1 + record_count t ≤ 32 * ((t.records + 32) / 32)
 room_written t sized = let fits = sized.fits in omega (arith, fits)
 
+-- it fills the slots of a table's blocks
+pub length_written_whole : (t : Table) → IsSized t → length (written_as (32 * ((t.records + 32) / 32)) t) ≡ 32 * ((t.records + 32) / 32)
+length_written_whole t sized = length_written (32 * ((t.records + 32) / 32)) t (room_written t sized)
+
 -- ---- no slot breaks a rule
 
 module _ (records : ℕ) where
@@ -198,22 +202,28 @@ module _ (blocks records : ℕ) (area : Area) where
       → Each (IsFineWhere blocks records area) (y ∷ front) rest
   slots_where y front [] filesets entries ready = tt
   slots_where y front (None ∷ rest) filesets entries ready = absurd ready.0
-  slots_where y front (Some Free ∷ rest) filesets entries ready =
-      (free_where y front, slots_where y (front ++ Some Free ∷ []) rest
-      (subst (λ l. Filesets l (filesets_in rest)) (sym (filesets_in-more (y ∷ front) (Some Free) ∙ append-nil (filesets_in (y ∷ front)))) filesets)
-      (subst (λ l. Entries l (entries_in rest)) (sym (entries_in-more (y ∷ front) (Some Free) ∙ append-nil (entries_in (y ∷ front)))) entries)
-      (one_more front (Some Free) rest ready.1))
+  slots_where y front (Some Free ∷ rest) filesets entries ready = (
+    free_where y front,
+    slots_where y (front ++ Some Free ∷ []) rest
+        (subst (λ l. Filesets l (filesets_in rest)) (sym (filesets_in-more (y ∷ front) (Some Free) ∙ append-nil (filesets_in (y ∷ front)))) filesets)
+        (subst (λ l. Entries l (entries_in rest)) (sym (entries_in-more (y ∷ front) (Some Free) ∙ append-nil (entries_in (y ∷ front)))) entries)
+        (one_more front (Some Free) rest ready.1),
+  )
   slots_where y front (Some (CountersRecord c) ∷ rest) filesets entries ready = absurd ready.0
-  slots_where y front (Some (FilesetRecord id f) ∷ rest) filesets entries ready =
-      (fileset_where y front id f ready.0 filesets.0, slots_where y (front ++ Some (FilesetRecord id f) ∷ []) rest
-      (subst (λ l. Filesets l (filesets_in rest)) (sym (filesets_in-more (y ∷ front) (Some (FilesetRecord id f)))) filesets.1)
-      (subst (λ l. Entries l (entries_in rest)) (sym (entries_in-more (y ∷ front) (Some (FilesetRecord id f)) ∙ append-nil (entries_in (y ∷ front)))) entries)
-      (one_more front (Some (FilesetRecord id f)) rest ready.1))
-  slots_where y front (Some (Entry fs key held) ∷ rest) filesets entries ready =
-      (entry_where y front fs key held ready.0 entries.0, slots_where y (front ++ Some (Entry fs key held) ∷ []) rest
-      (subst (λ l. Filesets l (filesets_in rest)) (sym (filesets_in-more (y ∷ front) (Some (Entry fs key held)) ∙ append-nil (filesets_in (y ∷ front)))) filesets)
-      (subst (λ l. Entries l (entries_in rest)) (sym (entries_in-more (y ∷ front) (Some (Entry fs key held)))) entries.1)
-      (one_more front (Some (Entry fs key held)) rest ready.1))
+  slots_where y front (Some (FilesetRecord id f) ∷ rest) filesets entries ready = (
+    fileset_where y front id f ready.0 filesets.0,
+    slots_where y (front ++ Some (FilesetRecord id f) ∷ []) rest
+        (subst (λ l. Filesets l (filesets_in rest)) (sym (filesets_in-more (y ∷ front) (Some (FilesetRecord id f)))) filesets.1)
+        (subst (λ l. Entries l (entries_in rest)) (sym (entries_in-more (y ∷ front) (Some (FilesetRecord id f)) ∙ append-nil (entries_in (y ∷ front)))) entries)
+        (one_more front (Some (FilesetRecord id f)) rest ready.1),
+  )
+  slots_where y front (Some (Entry fs key held) ∷ rest) filesets entries ready = (
+    entry_where y front fs key held ready.0 entries.0,
+    slots_where y (front ++ Some (Entry fs key held) ∷ []) rest
+        (subst (λ l. Filesets l (filesets_in rest)) (sym (filesets_in-more (y ∷ front) (Some (Entry fs key held)) ∙ append-nil (filesets_in (y ∷ front)))) filesets)
+        (subst (λ l. Entries l (entries_in rest)) (sym (entries_in-more (y ∷ front) (Some (Entry fs key held)))) entries.1)
+        (one_more front (Some (Entry fs key held)) rest ready.1),
+  )
 
 -- behind the counters, filesets and entries that are fine make no damage
 undamaged_behind : (blocks records : ℕ) (c : Counters) (rest : Area)
@@ -234,16 +244,16 @@ undamaged_written slots t lawful sound sized =
     let again : t ≡ table_of t.blocks t.records (Some (CountersRecord t.counters) ∷ rest) = sym (read_again slots t) ∙ ap (table_of t.blocks t.records) (written_parts slots t) in
     let filesets : Each (FilesetFine (Some t.counters)) [] (filesets_in rest) = subst (λ l. Each (FilesetFine (Some t.counters)) [] l) (sym (filesets_of_parts fsx es free)) (filesets_lawful t lawful sound) in
     let entries : Each (EntryFine (Some t.counters) t.blocks (table_of t.blocks t.records (Some (CountersRecord t.counters) ∷ rest)) (filesets_in rest)) [] (entries_in rest) =
-        subst (λ l. Each (EntryFine (Some t.counters) t.blocks (table_of t.blocks t.records (Some (CountersRecord t.counters) ∷ rest)) (filesets_in rest)) [] l) (sym (entries_of_parts fsx es free))
-        (subst (λ l. Each (EntryFine (Some t.counters) t.blocks (table_of t.blocks t.records (Some (CountersRecord t.counters) ∷ rest)) l) [] es) (sym (filesets_of_parts fsx es free))
-        (subst (λ u. Each (EntryFine (Some t.counters) t.blocks u fsx) [] es) again (entries_lawful t lawful sound))) in
+    subst (λ l. Each (EntryFine (Some t.counters) t.blocks (table_of t.blocks t.records (Some (CountersRecord t.counters) ∷ rest)) (filesets_in rest)) [] l) (sym (entries_of_parts fsx es free))
+    (subst (λ l. Each (EntryFine (Some t.counters) t.blocks (table_of t.blocks t.records (Some (CountersRecord t.counters) ∷ rest)) l) [] es) (sym (filesets_of_parts fsx es free))
+    (subst (λ u. Each (EntryFine (Some t.counters) t.blocks u fsx) [] es) again (entries_lawful t lawful sound))) in
     let many : length es ≡ map.len t.entries = sym (map.len-entries t.entries) in
     let checkpoints : length fsx ≡ map.len t.filesets = sym (map.len-entries t.filesets) in
     let fits = sized.fits in
     let ready : Ready t.records 1 rest =
-        subst (Ready t.records 1) (sym (append_assoc (fileset_slots fsx) (entry_slots es) (free_slots free)))
-        (ready_filesets t.records 1 fsx (entry_slots es ++ free_slots free) (omega (arith, many, checkpoints, fits))
-        (ready_entries t.records (1 + length fsx) es (free_slots free) (omega (arith, many, checkpoints, fits)) (ready_free t.records (1 + length fsx + length es) free))) in
+    subst (Ready t.records 1) (sym (append_assoc (fileset_slots fsx) (entry_slots es) (free_slots free)))
+    (ready_filesets t.records 1 fsx (entry_slots es ++ free_slots free) (omega (arith, many, checkpoints, fits))
+    (ready_entries t.records (1 + length fsx) es (free_slots free) (omega (arith, many, checkpoints, fits)) (ready_free t.records (1 + length fsx + length es) free))) in
     ap (damage t.blocks t.records) (written_parts slots t)
     ∙ undamaged_behind t.blocks t.records t.counters rest filesets entries ready
 
@@ -270,14 +280,15 @@ written_within slots t lawful =
     let fsx = map.entries t.filesets in
     let es = map.entries t.entries in
     let filesets : AllByRecursion (λ e. IsFileset e.0 e.1) fsx =
-        all_found nat_cmp_total nat_cmp-IsAntisymmetric (λ e. IsFileset e.0 e.1) fsx (entries_sorted t.filesets) (λ id f found. lawful.filesets id f (map.get-entries t.filesets id ∙ found)) in
+    all_found nat_cmp_total nat_cmp-IsAntisymmetric (λ e. IsFileset e.0 e.1) fsx (entries_sorted t.filesets) (λ id f found. lawful.filesets id f (map.get-entries t.filesets id ∙ found)) in
     let entries : AllByRecursion (λ e. IsWord e.0.0 × IsEntry e.0.1 e.1) es =
-        all_found entry_cmp_total entry_cmp_exact (λ e. IsWord e.0.0 × IsEntry e.0.1 e.1) es (entries_sorted t.entries) (λ place held found. lawful.entries place.0 place.1 held (map.get-entries t.entries place ∙ found)) in
-    subst AreRecords (sym (written_parts slots t))
-    (lawful.counters,
-    all_joined (λ x. IfSome x IsRecord) (fileset_slots fsx ++ entry_slots es) (free_slots (left_free slots t))
-    (all_joined (λ x. IfSome x IsRecord) (fileset_slots fsx) (entry_slots es) (filesets_within fsx filesets) (entries_within es entries))
-    (free_within (left_free slots t)))
+    all_found entry_cmp_total entry_cmp_exact (λ e. IsWord e.0.0 × IsEntry e.0.1 e.1) es (entries_sorted t.entries) (λ place held found. lawful.entries place.0 place.1 held (map.get-entries t.entries place ∙ found)) in
+    subst AreRecords (sym (written_parts slots t)) (
+      lawful.counters,
+      all_joined (λ x. IfSome x IsRecord) (fileset_slots fsx ++ entry_slots es) (free_slots (left_free slots t))
+          (all_joined (λ x. IfSome x IsRecord) (fileset_slots fsx) (entry_slots es) (filesets_within fsx filesets) (entries_within es entries))
+          (free_within (left_free slots t)),
+    )
 
 -- ---- forms that aren't built
 
