@@ -1,10 +1,10 @@
 pub mod OneArea
 pub mod Fronts
-pub mod Slots
-pub mod Undamaged
+pub mod SlotsLemmas
+pub mod UndamagedLemmas
 pub mod TableOf
-pub mod Lawful
-pub mod Written
+pub mod LawfulLemmas
+pub mod WrittenLemmas
 pub mod NewTable
 pub mod NewWorld
-pub mod Damaged
+pub mod DamagedLemmas

@@ -22,7 +22,7 @@ use Rattle.ck_record.specs.declared.records.Record.{Record}
 use Rattle.ck_record.specs.declared.records.Record.TheVariants.{Free, Counters as CountersRecord, Fileset as FilesetRecord, Entry}
 use Rattle.ck_area.specs.Area.{records_of, written_as, new_table}
 use Rattle.ck_area.proofs.Fronts.{Among}
-use Rattle.ck_area.proofs.Undamaged.{entry_among, sound}
+use Rattle.ck_area.proofs.UndamagedLemmas.{entry_among, sound}
 
 abbrev first : Counters
 first = record { stamp = 1; id = 1; number = 1 }

@@ -19,8 +19,8 @@ use Rattle.ck_record.specs.Record.{IsRecord}
 use Rattle.ck_area.specs.Area.{Blocks, Area, AreSlots, IsReadAs, slot_at, slot_bytes, entries_in, filesets_in, counters_by, counters_in, no_counters, table_of}
 use Rattle.ck_area.specs.Damage.{damage}
 use Rattle.ck_area.proofs.Fronts.{Among}
-use Rattle.ck_area.proofs.Slots.{all_fine, entries_fine, filesets_fine, count_fine, slots_some}
-use Rattle.ck_area.proofs.Undamaged.{len-from_entries-le, entry_among, fileset_among, sound}
+use Rattle.ck_area.proofs.SlotsLemmas.{all_fine, entries_fine, filesets_fine, count_fine, slots_some}
+use Rattle.ck_area.proofs.UndamagedLemmas.{len-from_entries-le, entry_among, fileset_among, sound}
 
 -- each slot that has a record has one within the limits
 abbrev pub AreRecords : Area → Type 0

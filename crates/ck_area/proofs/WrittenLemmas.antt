@@ -27,9 +27,9 @@ use Rattle.ck_record.specs.Record.{IsRecord}
 use Rattle.ck_area.specs.Area.{Area, entries_in, filesets_in, counters_in, no_counters, table_of, records_of, written_as}
 use Rattle.ck_area.specs.Damage.{breaks_fileset, breaks_lower, damage, is_unbuilt_form, is_unbuilt}
 use Rattle.ck_area.proofs.Fronts.{Each, none_of, none_passes, passes_none}
-use Rattle.ck_area.proofs.Slots.{IsFineWhere, EntryFine, FilesetFine, entries_in-append, filesets_in-append, entries_in-more, filesets_in-more, no_damage}
-use Rattle.ck_area.proofs.Undamaged.{fileset_among}
-use Rattle.ck_area.proofs.Lawful.{fileset_there, filesets_lawful, entries_lawful}
+use Rattle.ck_area.proofs.SlotsLemmas.{IsFineWhere, EntryFine, FilesetFine, entries_in-append, filesets_in-append, entries_in-more, filesets_in-more, no_damage}
+use Rattle.ck_area.proofs.UndamagedLemmas.{fileset_among}
+use Rattle.ck_area.proofs.LawfulLemmas.{fileset_there, filesets_lawful, entries_lawful}
 use Rattle.ck_area.proofs.TableOf.{AreRecords}
 
 -- ---- the parts of an area

@@ -29,7 +29,7 @@ use Rattle.ck_model.specs.Rules.{IsOrderly, IsSound, IsOwn, KeyBelow, HeldBelow,
 use Rattle.ck_model.proofs.Sizes.{len-retain_keys, len-insert-le}
 use Rattle.ck_area.specs.Damage.{is_alike, has_place, has_version, has_block, has_fileset, live_count, is_id_past, is_stamp_past, is_number_past, number_in, node_in, data_upto, is_absent, is_needed_by, is_misplaced}
 use Rattle.ck_area.proofs.Fronts.{Each, Among, Before, neither, passes_none, none_passes, each_then, each_among, one_or_apart, found_among, among_found}
-use Rattle.ck_area.proofs.Slots.{EntryFine, FilesetFine}
+use Rattle.ck_area.proofs.SlotsLemmas.{EntryFine, FilesetFine}
 
 -- ---- tests and what they tell
 

@@ -23,8 +23,8 @@ use Rattle.ck_model.specs.Rules.{IsSound, IsOwn, KeyBelow, HeldBelow, first_hold
 use Rattle.ck_model.proofs.CellsLemmas.{tied-is}
 use Rattle.ck_area.specs.Damage.{is_alike, has_place, has_version, has_block, has_fileset, live_count, is_id_past, is_number_past, number_in, node_in, data_upto, is_absent, is_needed_by, is_misplaced, breaks_lower, breaks_whole}
 use Rattle.ck_area.proofs.Fronts.{Each, Among, none_of, passes_none, none_passes, each_where, among_left, among_right, among_map, among_filter, sorted_found, sorted_apart}
-use Rattle.ck_area.proofs.Slots.{EntryFine, FilesetFine}
-use Rattle.ck_area.proofs.Undamaged.{filter_same, filter_keys}
+use Rattle.ck_area.proofs.SlotsLemmas.{EntryFine, FilesetFine}
+use Rattle.ck_area.proofs.UndamagedLemmas.{filter_same, filter_keys}
 
 -- ---- tests and what makes them false
 
