@@ -13,7 +13,7 @@ use Rattle.ck_model.specs.declared.cell.Cell.{Cell}
 use Rattle.ck_model.specs.Key.{key_cmp, key_cmp_total, key_cmp_exact, is_block}
 use Rattle.ck_model.specs.Cells.{Cells, with_cells, mark_of, marked, differs, differences}
 
-equal : (r : Ordering) → is_eq r ≡ true → r ≡ Equal
+pub equal : (r : Ordering) → is_eq r ≡ true → r ≡ Equal
 equal Less h = cc
 equal Equal h = refl
 equal Greater h = cc

@@ -55,7 +55,7 @@ pub len-differences-le : (a b : Cells) → map.len (differences a b) ≤ map.len
 len-differences-le a b =
     omega (arith, len-differences a b, len-retain_keys-le key_cmp_total key_cmp_exact b (is_new_in a b), len-retain_keys-le key_cmp_total key_cmp_exact a (is_gone_in b))
 
-differs_from_mark : (q : Key) (o p : Option Cell) → differs o (option_map (mark_of q) p) ≡ differs o p
+pub differs_from_mark : (q : Key) (o p : Option Cell) → differs o (option_map (mark_of q) p) ≡ differs o p
 differs_from_mark q None None = refl
 differs_from_mark q None (Some y) = refl
 differs_from_mark q (Some x) None = refl

@@ -17,3 +17,7 @@ pub mod StepLemmas
 pub mod HistoryLemmas
 pub mod LawsLemmas
 pub mod PathLemmas
+pub mod ValuesOf
+pub mod Rows
+pub mod Filesets
+pub mod Counted

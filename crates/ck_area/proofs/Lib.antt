@@ -1,0 +1,10 @@
+pub mod OneArea
+pub mod Fronts
+pub mod SlotsLemmas
+pub mod UndamagedLemmas
+pub mod TableOf
+pub mod LawfulLemmas
+pub mod WrittenLemmas
+pub mod NewTable
+pub mod NewWorld
+pub mod DamagedLemmas

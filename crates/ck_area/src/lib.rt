@@ -1,0 +1,2 @@
+//! The slots of a table's blocks: read, checked, and written.
+#![tactic(auto)]
