@@ -1,2 +1,10 @@
 //! The slots of a table's blocks: read, checked, and written.
 #![tactic(auto)]
+
+mod forms;
+mod reading;
+mod writing;
+
+pub use forms::is_unbuilt;
+pub use reading::{read_block, slot_in};
+pub use writing::spell_block;
