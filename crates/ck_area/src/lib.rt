@@ -3,6 +3,7 @@
 
 mod forms;
 mod reading;
+mod repeats;
 mod writing;
 
 pub use forms::is_unbuilt;

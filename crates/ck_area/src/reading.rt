@@ -3,7 +3,9 @@ ghost use Rattle.ck_area.specs.Area.{Blocks, IsReadAs, AreSlots};
 
 use ck_model::NoMemory;
 use ck_record::{Record, decode};
-use std::array;
+
+/// How many slots a block has.
+const SLOTS: usize = 32;
 
 /// The bytes of one slot.
 const SLOT_BYTES: usize = 128;
@@ -19,11 +21,16 @@ pub fn slot_in(block: &[u8; 4096], place: usize) -> Option<Record>
     decode(&bytes)
 }
 
-fn slots_in(block: &[u8; 4096]) -> [Option<Record>; 32]
-    ensures { (place : ℕ) → place < 32
-        → IsReadAs (take 128 (drop (128 * place) block.now)) (slice_index_or result place None) }
+fn push_slots(block: &[u8; 4096], into: &mut Vec<Option<Record>>)
+    requires { vec_len into.old + 32 ≤ vec_capacity into.old }
+    ensures slots { (blocks : Blocks) → AreSlots blocks into.old.items
+        → AreSlots (blocks ++ block.now ∷ []) into.new.items }
+    ensures capacity { vec_capacity into.new ≡ vec_capacity into.old }
 {
-    array::from_fn(|place| slot_in(block, place))
+    let _key: Option<ck_model::Key> = None;
+    for place in 0..SLOTS {
+        into.push_reserved(slot_in(block, place));
+    }
 }
 
 /// Appends the slots of the next block of a table. A refusal appends nothing.
@@ -33,6 +40,7 @@ pub fn read_block(block: &[u8; 4096], into: &mut Vec<Option<Record>>) -> Result<
     ensures same { OnErr result (into.new.items ≡ into.old.items) }
     ensures full { OnErr result (vec_capacity into.old < vec_len into.old + 32) }
 {
-    into.extend_from_slice(&slots_in(block))?;
+    into.reserve(SLOTS)?;
+    push_slots(block, into);
     Ok(())
 }
