@@ -1,3 +1,4 @@
 pub mod Area
 pub mod Damage
 pub mod Firsts
+pub mod Parts

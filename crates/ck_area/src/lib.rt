@@ -2,7 +2,9 @@
 #![tactic(auto)]
 
 mod forms;
+mod parts;
 mod reading;
+mod repeated;
 mod repeats;
 mod writing;
 
