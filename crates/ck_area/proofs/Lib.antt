@@ -1,3 +1,5 @@
 pub mod SlotLemmas
 pub mod ReadingLemmas
 pub mod WritingLemmas
+pub mod OrderLemmas
+pub mod FirstLemmas
