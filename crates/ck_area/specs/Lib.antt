@@ -2,3 +2,4 @@ pub mod Area
 pub mod Damage
 pub mod Firsts
 pub mod Parts
+pub mod Split

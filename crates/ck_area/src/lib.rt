@@ -1,6 +1,8 @@
 //! The slots of a table's blocks: read, checked, and written.
 #![tactic(auto)]
 
+mod alone;
+mod crowd;
 mod forms;
 mod parts;
 mod reading;
