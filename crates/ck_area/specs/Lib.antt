@@ -3,3 +3,4 @@ pub mod Damage
 pub mod Firsts
 pub mod Parts
 pub mod Split
+pub mod Known

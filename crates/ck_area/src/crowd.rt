@@ -1,4 +1,4 @@
-ghost use Rattle.std.specs.Prelude.{◌≡◌, ◌+◌, ◌<◌, ◌^◌, length, if◌then◌else◌, false, not};
+ghost use Rattle.std.specs.Prelude.{◌≡◌, ◌≤◌, length, if◌then◌else◌};
 ghost use Rattle.ck_area.specs.Firsts.{IsFirst};
 ghost use Rattle.ck_area.specs.Area.{filesets_by};
 ghost use Rattle.ck_area.specs.Damage.{live_count};
@@ -18,6 +18,13 @@ fn is_live(slot: &Option<Record>) -> bool
     }
 }
 
+fn live(slot: &Option<Record>) -> usize
+    ensures value { result ≡ live_count (filesets_by slot.now) }
+    ensures few { result ≤ 1 }
+{
+    if is_live(slot) { 1 } else { 0 }
+}
+
 fn crowds(count: usize, slot: &Option<Record>) -> bool
     ensures { result ≡ crowds count slot.now }
 {
@@ -33,9 +40,7 @@ pub fn first_crowd(area: &[Option<Record>]) -> Option<usize>
         if crowds(count, slot) {
             return Some(at);
         }
-        if is_live(slot) {
-            count += 1;
-        }
+        count += live(slot);
     }
     None
 }
