@@ -3,3 +3,4 @@ pub mod ReadingLemmas
 pub mod WritingLemmas
 pub mod OrderLemmas
 pub mod FirstLemmas
+pub mod KnownLemmas

@@ -1,6 +1,6 @@
-ghost use Rattle.std.specs.Prelude.{◌≡◌, ◌||◌, ℕ, IfOk, OnOk, List, if◌then◌else◌, None};
+ghost use Rattle.std.specs.Prelude.{◌≡◌, ◌||◌, ℕ, IfOk, OnOk, List, if◌then◌else◌, Some, None};
 ghost use Rattle.std.specs.Option.{option_or};
-ghost use Rattle.std.specs.Ordering.{nat_cmp};
+ghost use Rattle.std.specs.Ordering.{nat_cmp, eq_by_cmp};
 ghost use Rattle.std.specs.FinMap.{find};
 ghost use Rattle.std.specs.BTreeMap as tree;
 ghost use Rattle.ck_model.specs.declared.key.Key.{Key};
@@ -45,6 +45,21 @@ fn is_home(filesets: &BTreeMap<u32, Fileset>, fileset: u32) -> bool
     fileset == 0 || filesets.contains_key(&fileset)
 }
 
+fn add(
+    known: &mut BTreeMap<(Key, u32), Held>,
+    place: (Key, u32),
+    held: Held,
+) -> Result<(), NoMemory>
+    ensures { OnOk result ((q : Key × ℕ) → tree.get column_order known.new q
+        ≡ option_or (tree.get column_order known.old q)
+        (if eq_by_cmp column_order q place then Some held else None)) }
+{
+    if !known.contains_key(&place) {
+        known.insert(place, held)?;
+    }
+    Ok(())
+}
+
 fn note_entry(
     known: &mut BTreeMap<(Key, u32), Held>,
     filesets: &BTreeMap<u32, Fileset>,
@@ -54,13 +69,12 @@ fn note_entry(
         ≡ option_or (tree.get column_order known.old (key, fs))
         (found_at_home (tree.get nat_cmp filesets.now) (entries_by slot.now) fs key)) }
 {
-    if let Some(Record::Entry(fileset, key, held)) = slot {
-        let place = (*key, *fileset);
-        if is_home(filesets, *fileset) && !known.contains_key(&place) {
-            known.insert(place, *held)?;
+    match slot {
+        Some(Record::Entry(fileset, key, held)) if is_home(filesets, *fileset) => {
+            add(known, (*key, *fileset), *held)
         }
+        _ => Ok(()),
     }
-    Ok(())
 }
 
 /// The entries of a table's filesets by their keys: of several at one place, that in the lowest slot.
