@@ -1,4 +1,4 @@
-use Rattle.std.proofs.Common.{◌≡◌, Option, Some, sym, ap, ◌∙◌}
+use Rattle.std.proofs.Common.{◌≡◌, rules, Option, Some, sym, ap, ◌∙◌}
 use Rattle.std.specs.Option.{option_or}
 use Rattle.std.specs.Ordering.{nat_cmp}
 use Rattle.std.specs.BTreeMap as tree
@@ -14,7 +14,7 @@ pub returns-in-Some-Entry : goal.returns-in-Some-Entry
 returns-in-Some-Entry c =
     let filesets = tree.get nat_cmp c.args.filesets.now in
     let e = c.in-Some-Entry in
-    let slot : c.args.slot.now ≡ Some (Entry e.fileset e.key e.held) = e.is ∙ ap (λ (x : Record). Some x) e.field-0-is in
+    let slot : c.args.slot.now ≡ Some (Entry e.fileset e.key e.held) = first_of (cc, search rules) in
     let home = sym c.is_home.ensures ∙ c.if-is_home.true in
     on_ok_weaker c.add.result (λ all fs key. all (key, fs)
     ∙ ap (option_or (tree.get column_order c.args.known.now (key, fs)))
