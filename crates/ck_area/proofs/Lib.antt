@@ -4,3 +4,4 @@ pub mod WritingLemmas
 pub mod OrderLemmas
 pub mod FirstLemmas
 pub mod KnownLemmas
+pub mod HolderLemmas

@@ -1,7 +1,8 @@
 -- What is known of a whole table: the checkpoints and entries by their keys, and what follows from them.
-use Rattle.std.specs.Prelude.{◌≡◌, ◌<◌, ◌⊎◌, ℕ, Bool, true, false, not, ◌&&◌, ◌||◌, List, Option, Some, None, is_some, if◌then◌else◌, nat_eq, nat_le}
+use Rattle.std.specs.Prelude.{◌≡◌, ◌<◌, ◌⊎◌, ℕ, Bool, true, false, not, ◌&&◌, ◌||◌, List, Option, Some, None, is_some, IsSome, if◌then◌else◌, nat_eq, nat_le}
 use Rattle.std.specs.declared.cmp.Ordering.{Ordering}
-use Rattle.std.specs.Ordering.{nat_cmp, ordering_then}
+use Rattle.std.specs.declared.cmp.Ordering.TheVariants.{Less}
+use Rattle.std.specs.Ordering.{nat_cmp, ordering_then, is_gt}
 use Rattle.std.specs.Option.{option_map_or}
 use Rattle.std.specs.FinMap.{find}
 use Rattle.std.specs.BTreeMap as tree
@@ -35,3 +36,14 @@ IsNextHolder held fs None = ((id : ℕ) → fs < id → held id ≡ None) × (he
 IsNextHolder held fs (Some holder) =
     (held holder.0 ≡ Some holder.1)
     × (((fs < holder.0) × ((id : ℕ) → fs < id → id < holder.0 → held id ≡ None)) ⊎ ((holder.0 ≡ 0) × ((id : ℕ) → fs < id → held id ≡ None)))
+
+-- the first entry behind a place, in the order by keys
+abbrev pub IsFirstBehind : (Key × ℕ → Option Held) → Key × ℕ → Option ((Key × ℕ) × Held) → Type 0
+IsFirstBehind held place None = (q : Key × ℕ) → column_order place q ≡ Less → held q ≡ None
+IsFirstBehind held place (Some e) =
+    (column_order place e.0 ≡ Less) × (held e.0 ≡ Some e.1) × ((q : Key × ℕ) → column_order place q ≡ Less → IsSome (held q) → is_gt (column_order e.0 q) ≡ false)
+
+-- the entry of the first of the newer filesets that has one
+abbrev pub IsNewerHolder : (ℕ → Option Held) → ℕ → Option (ℕ × Held) → Type 0
+IsNewerHolder held fs None = (id : ℕ) → fs < id → held id ≡ None
+IsNewerHolder held fs (Some holder) = (fs < holder.0) × (held holder.0 ≡ Some holder.1) × ((id : ℕ) → fs < id → id < holder.0 → held id ≡ None)

@@ -4,6 +4,7 @@
 mod alone;
 mod crowd;
 mod forms;
+mod holder;
 mod known;
 mod parts;
 mod reading;
