@@ -1,10 +1,16 @@
 -- The first entry behind a place, and the next newer fileset that has an entry at the same key.
-use Rattle.std.proofs.Common.{◌≡◌, ◌≢◌, ◌⊎◌, ℕ, ◌<◌, Bool, true, false, Option, Some, None, IsSome, is_some, refl, sym, ap, subst, ◌∙◌, arith, inl, inr}
+use Rattle.std.proofs.Common.{◌≡◌, ◌≢◌, ◌⊎◌, ℕ, ◌<◌, Bool, true, false, cond, T, ◌&&◌, ◌||◌, nat_lt, List, [], ◌∷◌, map as list_map, Option, Some, None, IsSome, is_some, refl, sym, ap, subst, ◌∙◌, arith, inl, inr}
 use Rattle.std.specs.declared.cmp.Ordering.{Ordering}
 use Rattle.std.specs.declared.cmp.Ordering.TheVariants.{Less, Equal, Greater}
-use Rattle.std.specs.Ordering.{nat_cmp, is_eq, is_gt, eq_by_cmp, ordering_then, ordering_reverse}
+use Rattle.std.specs.Ordering.{nat_cmp, is_eq, is_gt, is_lt, eq_by_cmp, ordering_then, ordering_reverse}
 use Rattle.std.proofs.lemmas.Bool.Decides.{nat_tests}
-use Rattle.std.proofs.lemmas.Cmp.{tied_itself}
+use Rattle.std.proofs.lemmas.Cmp.{tied_itself, nat_cmp_total}
+use Rattle.std.specs.List.{list_any}
+use Rattle.std.specs.Option.{option_or, option_map}
+use Rattle.std.specs.FinMap.{is_sorted}
+use Rattle.std.specs.FinMap.Entries.{below_all}
+use Rattle.ck_model.specs.Rules.{first_holder}
+use Rattle.ck_model.proofs.Filesets.{above}
 use Rattle.ck_model.specs.declared.key.Key.{Key}
 use Rattle.ck_model.specs.declared.held.Held.{Held}
 use Rattle.ck_model.specs.Key.{key_cmp, key_cmp_total, key_cmp_exact}
@@ -75,3 +81,81 @@ same_keys x y h = key_cmp_exact x y (equal (key_cmp x y) (sym (derived_same x y)
 
 pub other_keys : (x y : Key) → (same.ghosts).eq x y ≡ false → x ≡ y → ⊥
 other_keys x y h is = let itself : (same.ghosts).eq x x ≡ true = derived_same x x ∙ ap is_eq (tied_itself key_cmp_total x) in absurd (cc (sym h ∙ ap ((same.ghosts).eq x) (sym is) ∙ itself))
+
+-- ---- the next holder, in a table
+
+lower_than : (a b : ℕ) → nat_lt a b ≡ true → a < b
+lower_than a b h = grind (arith, nat_tests)
+
+greater_than : (a b : ℕ) → a < b → nat_lt a b ≡ true
+greater_than a b h = grind (arith, nat_tests)
+
+abbrev pub is_member : {X : Type 0} → ℕ → List (ℕ × X) → Bool
+is_member id es = list_any (eq_by_cmp nat_cmp id) (list_map (λ e. e.0) es)
+
+tied_numbers : (a b : ℕ) → eq_by_cmp nat_cmp a b ≡ true → a ≡ b
+tied_numbers a b h = grind (arith, nat_tests)
+
+or_right : (a b : Bool) → b ≡ true → (a || b) ≡ true
+or_right true b h = refl
+or_right false b h = h
+
+or_left : (a b : Bool) → a ≡ true → (a || b) ≡ true
+or_left true b h = refl
+or_left false b h = cc
+
+and_parts : (a b : Bool) → T (a && b) → T a × T b
+and_parts true b h = (tt, h)
+and_parts false b h = absurd h
+
+lower_number : (a b : ℕ) → T (is_lt (nat_cmp a b)) → a < b
+lower_number a b h = grind (arith, nat_tests)
+
+below_member : {X : Type 0} (x id : ℕ) (es : List (ℕ × X)) → T (below_all nat_cmp x es) → is_member id es ≡ true → x < id
+below_member x id [] h member = cc
+below_member x id (e ∷ es) h member =
+    let parts = and_parts (is_lt (nat_cmp x e.0)) (below_all nat_cmp x es) h in
+    elim (eq_by_cmp nat_cmp id e.0) as (λ b. eq_by_cmp nat_cmp id e.0 ≡ b → (b || is_member id es) ≡ true → x < id) [
+      | true ↦ λ tied _. let lower = lower_number x e.0 parts.0 in let same = tied_numbers id e.0 tied in omega arith
+      | false ↦ λ _ rest. below_member x id es parts.1 rest
+    ] refl member
+
+module _ {X : Type 0} (held other : ℕ → Option Held) (fs : ℕ) where
+  first_none : (es : List (ℕ × X)) → ((id : ℕ) → is_member id es ≡ true → other id ≡ held id) → ((id : ℕ) → fs < id → other id ≡ None)
+      → first_holder held (above fs es) ≡ option_map (λ entry. (0, entry)) (held 0)
+  first_none [] agree none = refl
+  first_none (e ∷ es) agree none =
+      let rest = first_none es (λ id member. agree id (or_right (eq_by_cmp nat_cmp id e.0) (is_member id es) member)) none in
+      let here = agree e.0 (or_left (eq_by_cmp nat_cmp e.0 e.0) (is_member e.0 es) (ap is_eq (tied_itself nat_cmp_total e.0))) in
+      elim (nat_lt fs e.0) as (λ b. nat_lt fs e.0 ≡ b → first_holder held (cond b (e.0 ∷ above fs es) (above fs es)) ≡ option_map (λ entry. (0, entry)) (held 0)) [
+        | true ↦ λ above_it.
+            let empty : held e.0 ≡ None = sym here ∙ none e.0 (lower_than fs e.0 above_it) in
+            ap (λ o. option_or (option_map (λ entry. (e.0, entry)) o) (first_holder held (above fs es))) empty ∙ rest
+        | false ↦ λ _. rest
+      ] refl
+
+  first_some : (es : List (ℕ × X)) (id : ℕ) (value : Held) → T (is_sorted nat_cmp es) → ((n : ℕ) → is_member n es ≡ true → other n ≡ held n)
+      → fs < id → other id ≡ Some value → ((n : ℕ) → fs < n → n < id → other n ≡ None) → is_member id es ≡ true
+      → first_holder held (above fs es) ≡ Some (id, value)
+  first_some [] id value sorted agree behind is none member = cc
+  first_some (e ∷ es) id value sorted agree behind is none member =
+      let parts = and_parts (below_all nat_cmp e.0 es) (is_sorted nat_cmp es) sorted in
+      let here = agree e.0 (or_left (eq_by_cmp nat_cmp e.0 e.0) (is_member e.0 es) (ap is_eq (tied_itself nat_cmp_total e.0))) in
+      let rest = first_some es id value parts.1 (λ n inside. agree n (or_right (eq_by_cmp nat_cmp n e.0) (is_member n es) inside)) behind is none in
+      elim (eq_by_cmp nat_cmp id e.0) as (λ b. eq_by_cmp nat_cmp id e.0 ≡ b → (b || is_member id es) ≡ true → first_holder held (above fs (e ∷ es)) ≡ Some (id, value)) [
+        | true ↦ λ tied _.
+            let same : id ≡ e.0 = tied_numbers id e.0 tied in
+            let value_here : held e.0 ≡ Some value = sym here ∙ ap other (sym same) ∙ is in
+            let seen : nat_lt fs e.0 ≡ true = greater_than fs e.0 (omega arith) in
+            ap (λ b. first_holder held (cond b (e.0 ∷ above fs es) (above fs es))) seen
+            ∙ ap (λ o. option_or (option_map (λ entry. (e.0, entry)) o) (first_holder held (above fs es))) value_here
+            ∙ ap (λ (n : ℕ). Some (n, value)) (sym same)
+        | false ↦ λ _ inside.
+            let lower : e.0 < id = below_member e.0 id es parts.0 inside in
+            elim (nat_lt fs e.0) as (λ b. nat_lt fs e.0 ≡ b → first_holder held (cond b (e.0 ∷ above fs es) (above fs es)) ≡ Some (id, value)) [
+              | true ↦ λ above_it.
+                  let empty : held e.0 ≡ None = sym here ∙ none e.0 (lower_than fs e.0 above_it) lower in
+                  ap (λ o. option_or (option_map (λ entry. (e.0, entry)) o) (first_holder held (above fs es))) empty ∙ rest inside
+              | false ↦ λ _. rest inside
+            ] refl
+      ] refl member
