@@ -1,5 +1,5 @@
 -- The first entry behind a place, and the next newer fileset that has an entry at the same key.
-use Rattle.std.proofs.Common.{◌≡◌, ◌≢◌, ◌⊎◌, ℕ, ◌<◌, Bool, true, false, cond, T, ◌&&◌, ◌||◌, nat_lt, List, [], ◌∷◌, map as list_map, Option, Some, None, IsSome, is_some, refl, sym, ap, subst, ◌∙◌, arith, inl, inr}
+use Rattle.std.proofs.Common.{◌≡◌, ◌≢◌, ◌⊎◌, ℕ, ◌<◌, Bool, true, false, cond, T, ◌&&◌, ◌||◌, nat_lt, nat_eq, List, [], ◌∷◌, map as list_map, Option, Some, None, IsSome, is_some, refl, sym, ap, subst, ◌∙◌, arith, inl, inr}
 use Rattle.std.specs.declared.cmp.Ordering.{Ordering}
 use Rattle.std.specs.declared.cmp.Ordering.TheVariants.{Less, Equal, Greater}
 use Rattle.std.specs.Ordering.{nat_cmp, is_eq, is_gt, is_lt, eq_by_cmp, ordering_then, ordering_reverse}
@@ -7,8 +7,11 @@ use Rattle.std.proofs.lemmas.Bool.Decides.{nat_tests}
 use Rattle.std.proofs.lemmas.Cmp.{tied_itself, nat_cmp_total}
 use Rattle.std.specs.List.{list_any}
 use Rattle.std.specs.Option.{option_or, option_map}
-use Rattle.std.specs.FinMap.{is_sorted}
+use Rattle.std.specs.FinMap.{is_sorted, entries_sorted}
+use Rattle.std.specs.FinMap as map
 use Rattle.std.specs.FinMap.Entries.{below_all}
+use Rattle.ck_model.specs.declared.checkpoint.Fileset.{Fileset}
+use Rattle.ck_model.specs.Table.{Table, column, newer}
 use Rattle.ck_model.specs.Rules.{first_holder}
 use Rattle.ck_model.proofs.Filesets.{above}
 use Rattle.ck_model.specs.declared.key.Key.{Key}
@@ -17,7 +20,7 @@ use Rattle.ck_model.specs.Key.{key_cmp, key_cmp_total, key_cmp_exact}
 use Rattle.ck_model.specs.contracts.key.KeyOrd.TheImpl.{ghosts}
 use Rattle.ck_model.specs.contracts.key.KeyPartialEq.TheImpl as same
 use Rattle.ck_model.specs.contracts.key.KeyOrd.TheImpl.Laws as laws
-use Rattle.ck_area.specs.Known.{column_order, IsFirstBehind, IsNewerHolder, IsNextHolder}
+use Rattle.ck_area.specs.Known.{column_order, IsFirstBehind, IsNewerHolder, IsNextHolder, is_home}
 use Rattle.ck_area.proofs.OrderLemmas.{derived_key}
 
 less_is : (a b : ℕ) → a < b → nat_cmp a b ≡ Less
@@ -159,3 +162,41 @@ module _ {X : Type 0} (held other : ℕ → Option Held) (fs : ℕ) where
               | false ↦ λ _. rest inside
             ] refl
       ] refl member
+
+home_of : (home : Bool) (o : Option Held) (value : Held) → cond home o None ≡ Some value → home ≡ true
+home_of true o value h = refl
+home_of false o value h = cc
+
+or_second : (a b : Bool) → (a || b) ≡ true → a ≡ false → b ≡ true
+or_second true b h apart = cc
+or_second false b h apart = h
+
+not_zero : (fs id : ℕ) → fs < id → nat_eq id 0 ≡ false
+not_zero fs id h = grind (arith, nat_tests)
+
+module _ (t : Table) (key : Key) (filesets : ℕ → Option Fileset) (held : ℕ → Option Held) (same : (id : ℕ) → filesets id ≡ map.get t.filesets id)
+    (entries : (id : ℕ) → held id ≡ cond (is_home filesets id) (column t key id) None) where
+  member_is : (id : ℕ) → is_some (filesets id) ≡ is_member id (map.entries t.filesets)
+  member_is id = ap is_some (same id) ∙ map.contains_key-keys t.filesets id
+
+  agree : (id : ℕ) → is_member id (map.entries t.filesets) ≡ true → held id ≡ column t key id
+  agree id member =
+      let home : is_home filesets id ≡ true = or_right (nat_eq id 0) (is_some (filesets id)) (member_is id ∙ member) in
+      entries id ∙ ap (λ b. cond b (column t key id) None) home
+
+  -- it is what the table says
+  pub holder_in_table : (fs : ℕ) (holder : Option (ℕ × Held)) → IsNextHolder held fs holder → first_holder (column t key) (newer t fs) ≡ holder
+  holder_in_table fs None h =
+      first_none (column t key) held fs (map.entries t.filesets) agree h.0 ∙ ap (option_map (λ entry. (0, entry))) (sym (entries 0) ∙ h.1)
+  holder_in_table fs (Some holder) h =
+      elim h.1 [
+        | inl newer_one ↦
+            let home : is_home filesets holder.0 ≡ true = home_of (is_home filesets holder.0) (column t key holder.0) holder.1 (sym (entries holder.0) ∙ h.0) in
+            let member : is_member holder.0 (map.entries t.filesets) ≡ true = sym (member_is holder.0) ∙ or_second (nat_eq holder.0 0) (is_some (filesets holder.0)) home (not_zero fs holder.0 newer_one.0) in
+            first_some (column t key) held fs (map.entries t.filesets) holder.0 holder.1 (entries_sorted t.filesets) agree newer_one.0 h.0 newer_one.1 member
+        | inr primary ↦
+            let value : column t key 0 ≡ Some holder.1 = sym (entries 0) ∙ ap held (sym primary.0) ∙ h.0 in
+            first_none (column t key) held fs (map.entries t.filesets) agree primary.1
+            ∙ ap (option_map (λ entry. (0, entry))) value
+            ∙ ap (λ (n : ℕ). Some (n, holder.1)) (sym primary.0)
+      ]

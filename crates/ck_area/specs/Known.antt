@@ -12,7 +12,10 @@ use Rattle.ck_model.specs.declared.held.Held.TheVariants.{Absent, Plain, Extent,
 use Rattle.ck_model.specs.declared.checkpoint.Fileset.{Fileset}
 use Rattle.ck_model.specs.Key.{entry_cmp}
 use Rattle.ck_model.specs.contracts.key.KeyOrd.TheImpl.{ghosts}
-use Rattle.ck_area.specs.Damage.{is_absent}
+use Rattle.std.specs.FinMap as map
+use Rattle.ck_model.specs.Table.{Table, column}
+use Rattle.ck_area.specs.declared.known.Known.{Known}
+use Rattle.ck_area.specs.Damage.{data_upto}
 
 -- by keys, and then by filesets
 abbrev pub column_order : Key × ℕ → Key × ℕ → Ordering
@@ -47,3 +50,11 @@ IsFirstBehind held place (Some e) =
 abbrev pub IsNewerHolder : (ℕ → Option Held) → ℕ → Option (ℕ × Held) → Type 0
 IsNewerHolder held fs None = (id : ℕ) → fs < id → held id ≡ None
 IsNewerHolder held fs (Some holder) = (fs < holder.0) × (held holder.0 ≡ Some holder.1) × ((id : ℕ) → fs < id → id < holder.0 → held id ≡ None)
+
+-- ---- what is known stands for a table
+
+-- it has a table's checkpoints and entries, and the least data checkpoint of these
+pub record Knows (t : Table) (listed : List (ℕ × Fileset)) (known : Known) : Type 0 where
+  pub filesets : (id : ℕ) → tree.get nat_cmp known.filesets id ≡ map.get t.filesets id
+  pub entries : (fs : ℕ) (key : Key) → tree.get column_order known.entries (key, fs) ≡ (if is_home (tree.get nat_cmp known.filesets) fs then column t key fs else None)
+  pub least : (fs : ℕ) → data_upto listed fs ≡ is_from known.least_data fs

@@ -13,6 +13,18 @@ use ck_record::Record;
 use std::alloc::Global;
 use std::collections::BTreeMap;
 
+/// What the rules on a whole table look at.
+#[derive(Drop)]
+pub struct Known {
+    /// By their ids. Of several with one id the one in the lowest slot.
+    pub filesets: BTreeMap<u32, Fileset>,
+    /// By their keys and filesets, where the fileset is one of the table. Of several at one place
+    /// the one in the lowest slot.
+    pub entries: BTreeMap<(Key, u32), Held>,
+    /// The least id of a data checkpoint that isn't gone.
+    pub least_data: Option<u32>,
+}
+
 fn note_fileset(known: &mut BTreeMap<u32, Fileset>, slot: &Option<Record>) -> Result<(), NoMemory>
     ensures { OnOk result ((id : ℕ) → tree.get nat_cmp known.new id
         ≡ option_or (tree.get nat_cmp known.old id) (find nat_cmp id (filesets_by slot.now))) }
@@ -26,7 +38,7 @@ fn note_fileset(known: &mut BTreeMap<u32, Fileset>, slot: &Option<Record>) -> Re
 }
 
 /// The checkpoints of a table by their ids: of several with one id, that in the lowest slot.
-pub fn filesets_in(
+fn filesets_in(
     alloc: Global,
     area: &[Option<Record>],
 ) -> Result<BTreeMap<u32, Fileset>, NoMemory>
@@ -78,7 +90,7 @@ fn note_entry(
 }
 
 /// The entries of a table's filesets by their keys: of several at one place, that in the lowest slot.
-pub fn entries_in(
+fn entries_in(
     alloc: Global,
     filesets: &BTreeMap<u32, Fileset>,
     area: &[Option<Record>],
@@ -117,7 +129,7 @@ fn lower(a: Option<u32>, b: Option<u32>) -> Option<u32>
 }
 
 /// The least id of a data checkpoint that isn't gone.
-pub fn least_data(area: &[Option<Record>]) -> Option<u32>
+fn least_data(area: &[Option<Record>]) -> Option<u32>
     ensures { (fs : ℕ) → data_upto (filesets_in area.now) fs ≡ is_from result fs }
 {
     let mut least = None;
@@ -125,4 +137,22 @@ pub fn least_data(area: &[Option<Record>]) -> Option<u32>
         least = lower(least, data_id(slot));
     }
     least
+}
+
+impl Known {
+    ghost use Rattle.ck_area.specs.Area.{table_of};
+    ghost use Rattle.ck_area.specs.Known.{Knows};
+
+    pub fn of(alloc: Global, area: &[Option<Record>]) -> Result<Known, NoMemory>
+        ensures { IfOk result (λ known. (blocks records : ℕ)
+            → Knows (table_of blocks records area.now) (filesets_in area.now) known) }
+    {
+        let filesets = filesets_in(alloc, area)?;
+        let entries = entries_in(alloc, &filesets, area)?;
+        Ok(Known {
+            filesets,
+            entries,
+            least_data: least_data(area),
+        })
+    }
 }

@@ -10,6 +10,7 @@ mod parts;
 mod reading;
 mod repeated;
 mod repeats;
+mod whole;
 mod writing;
 
 pub use forms::is_unbuilt;
