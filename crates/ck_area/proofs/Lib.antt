@@ -5,3 +5,4 @@ pub mod OrderLemmas
 pub mod FirstLemmas
 pub mod KnownLemmas
 pub mod HolderLemmas
+pub mod SplitLemmas

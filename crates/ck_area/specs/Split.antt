@@ -1,15 +1,20 @@
 -- The rules on a slot, apart: those on the record alone, those on lower slots, and those on the whole table.
-use Rattle.std.specs.Prelude.{◌≡◌, ℕ, suc, zero, Bool, true, false, not, ◌&&◌, ◌||◌, List, Option, Some, None, is_some, take, nat_eq, nat_le, nat_lt}
+use Rattle.std.specs.Prelude.{◌≡◌, ℕ, suc, zero, Bool, true, false, not, ◌&&◌, ◌||◌, List, Option, Some, None, is_some, take, nat_eq, nat_le, nat_lt, map as list_map}
+use Rattle.std.specs.Ordering.{eq_by_cmp}
+use Rattle.std.specs.Cmp.Lexicographic.{pointwise}
 use Rattle.std.specs.Option.{option_map_or}
 use Rattle.ck_model.specs.declared.key.Key.{Key}
 use Rattle.ck_model.specs.declared.held.Held.{Held}
 use Rattle.ck_model.specs.declared.checkpoint.Counters.{Counters}
 use Rattle.ck_model.specs.declared.checkpoint.Fileset.{Fileset}
 use Rattle.ck_model.specs.Rules.{stamp_in, block_in}
+use Rattle.ck_model.specs.Key.{key_cmp, entry_cmp}
 use Rattle.ck_model.specs.Table.{Table}
 use Rattle.ck_record.specs.declared.records.Record.{Record}
 use Rattle.ck_record.specs.declared.records.Record.TheVariants.{Free, Counters as CountersRecord, Fileset as FilesetRecord, Entry}
 use Rattle.ck_area.specs.Area.{Area, slot_at, filesets_in, counters_in, table_of}
+use Rattle.ck_area.specs.Firsts.{stands_in}
+use Rattle.ck_area.specs.Parts.{place_in, version_in, named_in, id_in, live_name_in}
 use Rattle.ck_area.specs.Damage.{is_id_past, is_stamp_past, is_number_past, is_free, live_count, breaks_whole}
 
 -- a number of the entry is past its limit
@@ -50,3 +55,16 @@ breaks_table t filesets (Some Free) = false
 breaks_table t filesets (Some (CountersRecord counters)) = false
 breaks_table t filesets (Some (FilesetRecord id fileset)) = false
 breaks_table t filesets (Some (Entry fs key held)) = breaks_whole t filesets fs key held
+
+-- the part of a slot that these lower slots have too
+abbrev pub stands_below : {K : Type 0} → (K → K → Bool) → (Option Record → Option K) → Area → Option Record → Bool
+stands_below same part lower slot = option_map_or (stands_in same (list_map part lower)) (part slot) false
+
+-- the slot repeats what a lower slot has, and may not
+abbrev pub breaks_again : Area → Option Record → Bool
+breaks_again lower slot =
+    stands_below (eq_by_cmp entry_cmp) place_in lower slot
+    || stands_below (λ x y. eq_by_cmp key_cmp x.0 y.0 && nat_eq x.1 y.1) version_in lower slot
+    || stands_below nat_eq named_in lower slot
+    || stands_below nat_eq id_in lower slot
+    || stands_below (pointwise nat_eq) live_name_in lower slot
