@@ -154,3 +154,96 @@ filesets_at lower id f =
     either_test (λ e. nat_eq id e.0) (same_name f) (filesets_in lower)
     ∙ ap (λ b. b || list_any (same_name f) (filesets_in lower)) (filesets_stand nat_eq id_in id (λ e. nat_eq id e.0) (id_each id) lower)
     ∙ ap (λ b. stands_below nat_eq id_in lower (Some (FilesetRecord id f)) || b) (names_at lower f.gone f.name)
+
+-- ---- the tests in another order
+
+lower_parts : (place stamp number block again version : Bool) → ((((place || stamp) || number) || block) || again) || version ≡ ((place || ((stamp || number) || block)) || again) || version
+lower_parts true stamp number block again version = refl
+lower_parts false stamp number block again version = refl
+
+entry_parts : (high past place version again whole : Bool) → (high || ((((place || past) || again) || version) || whole))
+    ≡ (((high || past) || false) || (((((place || version) || again) || false) || false) || whole))
+entry_parts true past place version again whole = refl
+entry_parts false true true version again whole = refl
+entry_parts false true false version again whole = refl
+entry_parts false false true version again whole = refl
+entry_parts false false false true true whole = refl
+entry_parts false false false true false whole = refl
+entry_parts false false false false true whole = refl
+entry_parts false false false false false whole = refl
+
+fileset_parts : (high past crowd id name : Bool) → (high || (((id || name) || past) || crowd)) ≡ (((high || past) || crowd) || ((id || name) || false))
+fileset_parts true past crowd id name = refl
+fileset_parts false true crowd true name = refl
+fileset_parts false true crowd false true = refl
+fileset_parts false true crowd false false = refl
+fileset_parts false false true true name = refl
+fileset_parts false false true false true = refl
+fileset_parts false false true false false = refl
+fileset_parts false false false true name = refl
+fileset_parts false false false false true = refl
+fileset_parts false false false false false = refl
+
+free_parts : (high : Bool) → (high || false) ≡ (((high || false) || false) || false)
+free_parts true = refl
+free_parts false = refl
+
+counters_parts : (high : Bool) → (high || true) ≡ (((high || true) || false) || false)
+counters_parts true = refl
+counters_parts false = refl
+
+-- with no lower slots, none stands below
+none_below : {K : Type 0} (o : Option K) → option_map_or (λ _. false) o false ≡ false
+none_below None = refl
+none_below (Some x) = refl
+
+first_entry_parts : (version again : Bool) → version ≡ false → again ≡ false → true ≡ ((true || false) || ((((false || version) || again) || false) || false))
+first_entry_parts version again h k = refl
+
+not_crowded : (gone : Bool) → (not gone && nat_le 64 0) ≡ false
+not_crowded true = refl
+not_crowded false = refl
+
+first_fileset_parts : (none crowd name : Bool) → crowd ≡ false → name ≡ false → none ≡ (((none || crowd) || ((false || name) || false)))
+first_fileset_parts true crowd name h k = refl
+first_fileset_parts false crowd name h k = sym (ap (λ b. (false || b) || ((false || name) || false)) h ∙ ap (λ b. (false || b) || false) k)
+
+first_parts : (none : Bool) → none ≡ ((none || false) || false)
+first_parts true = refl
+first_parts false = refl
+
+pub breaks_parts : (blocks records : ℕ) (area : Area) (k : ℕ) (slot : Option Record) → slot_at area k ≡ slot
+    → breaks_slot blocks records area k slot
+    ≡ ((breaks_alone blocks records (counters_in area) k slot || crowds (live_count (filesets_in (take k area))) slot)
+    || (breaks_again (take k area) slot || breaks_table (table_of blocks records area) (filesets_in area) slot))
+breaks_parts blocks records area zero None is = refl
+breaks_parts blocks records area zero (Some Free) is = first_parts (not (is_some (counters_in area)))
+breaks_parts blocks records area zero (Some (CountersRecord c)) is = first_parts (not (is_some (counters_in area)))
+breaks_parts blocks records area zero (Some (FilesetRecord id f)) is =
+    first_fileset_parts (not (is_some (counters_in area))) (not f.gone && nat_le 64 0) (stands_below (pointwise nat_eq) live_name_in [] (Some (FilesetRecord id f))) (not_crowded f.gone) (none_below (live_name_in (Some (FilesetRecord id f))))
+breaks_parts blocks records area zero (Some (Entry fs key held)) is =
+    let absent : is_some (counters_in area) ≡ false = ap (λ s. is_some (counters_by s)) is in
+    ap not absent ∙ ap (λ b. (b || false) || (breaks_again [] (Some (Entry fs key held)) || breaks_whole (table_of blocks records area) (filesets_in area) fs key held)) (ap not (sym absent))
+breaks_parts blocks records area (suc before) None is = refl
+breaks_parts blocks records area (suc before) (Some Free) is = free_parts (nat_lt records (suc before) && not (is_free Free))
+breaks_parts blocks records area (suc before) (Some (CountersRecord c)) is = counters_parts (nat_lt records (suc before) && not (is_free (CountersRecord c)))
+breaks_parts blocks records area (suc before) (Some (FilesetRecord id f)) is =
+    let lower = take (suc before) area in
+    let high = nat_lt records (suc before) && not (is_free (FilesetRecord id f)) in
+    let past = is_id_past (counters_in area) id in
+    let crowd = not f.gone && nat_le 64 (live_count (filesets_in lower)) in
+    ap (λ b. high || ((b || past) || crowd)) (filesets_at lower id f)
+    ∙ fileset_parts high past crowd (stands_below nat_eq id_in lower (Some (FilesetRecord id f))) (stands_below (pointwise nat_eq) live_name_in lower (Some (FilesetRecord id f)))
+breaks_parts blocks records area (suc before) (Some (Entry fs key held)) is =
+    let lower = take (suc before) area in
+    let slot : Option Record = Some (Entry fs key held) in
+    let high = nat_lt records (suc before) && not (is_free (Entry fs key held)) in
+    let stamp = is_stamp_past (counters_in area) (stamp_in held) in
+    let number = is_number_past (counters_in area) key held in
+    let block = option_map_or (λ block. nat_le blocks block) (block_in held) false in
+    let whole = breaks_whole (table_of blocks records area) (filesets_in area) fs key held in
+    ap (λ b. high || (((((b || stamp) || number) || block) || has_block (entries_in lower) (block_in held)) || has_version (entries_in lower) key (stamp_in held) || whole)) (places_stand lower fs key held)
+    ∙ ap (λ b. high || (((((stands_below (eq_by_cmp entry_cmp) place_in lower slot || stamp) || number) || block) || b) || has_version (entries_in lower) key (stamp_in held) || whole)) (blocks_at lower (block_in held))
+    ∙ ap (λ b. high || (((((stands_below (eq_by_cmp entry_cmp) place_in lower slot || stamp) || number) || block) || stands_below nat_eq named_in lower slot) || b || whole)) (versions_at lower key (stamp_in held))
+    ∙ ap (λ b. high || (b || whole)) (lower_parts (stands_below (eq_by_cmp entry_cmp) place_in lower slot) stamp number block (stands_below nat_eq named_in lower slot) (stands_below same_version version_in lower slot))
+    ∙ entry_parts high ((stamp || number) || block) (stands_below (eq_by_cmp entry_cmp) place_in lower slot) (stands_below same_version version_in lower slot) (stands_below nat_eq named_in lower slot) whole
