@@ -3,6 +3,7 @@ use Rattle.std.proofs.Common.{◌≡◌, ℕ, zero, suc, ◌+◌, ◌<◌, Bool,
 use Rattle.std.specs.Ordering.{eq_by_cmp}
 use Rattle.std.specs.Cmp.Lexicographic.{pointwise}
 use Rattle.std.specs.List.{list_any}
+use Rattle.std.proofs.lemmas.List.{take-map}
 use Rattle.std.proofs.lemmas.List.Folds.{list_any-append}
 use Rattle.std.specs.Option.{option_map_or, option_map}
 use Rattle.ck_model.specs.declared.key.Key.{Key}
@@ -15,7 +16,7 @@ use Rattle.ck_record.specs.declared.records.Record.{Record}
 use Rattle.ck_record.specs.declared.records.Record.TheVariants.{Free, Counters as CountersRecord, Fileset as FilesetRecord, Entry}
 use Rattle.ck_area.specs.Area.{Area, entries_by, entries_in, filesets_by, filesets_in, counters_by, counters_in, table_of, slot_at}
 use Rattle.ck_area.specs.Damage.{has_place, has_version, has_block, has_fileset, is_alike, is_id_past, is_stamp_past, is_number_past, live_count, breaks_whole, breaks_slot, is_free}
-use Rattle.ck_area.specs.Firsts.{stands_in}
+use Rattle.ck_area.specs.Firsts.{stands_in, repeats}
 use Rattle.ck_area.specs.Parts.{place_in, version_in, named_in, id_in, live_name_in}
 use Rattle.ck_area.specs.Split.{is_past, is_entry_past, breaks_alone, crowds, breaks_table, stands_below, breaks_again}
 
@@ -247,3 +248,16 @@ breaks_parts blocks records area (suc before) (Some (Entry fs key held)) is =
     ∙ ap (λ b. high || (((((stands_below (eq_by_cmp entry_cmp) place_in lower slot || stamp) || number) || block) || stands_below nat_eq named_in lower slot) || b || whole)) (versions_at lower key (stamp_in held))
     ∙ ap (λ b. high || (b || whole)) (lower_parts (stands_below (eq_by_cmp entry_cmp) place_in lower slot) stamp number block (stands_below nat_eq named_in lower slot) (stands_below same_version version_in lower slot))
     ∙ entry_parts high ((stamp || number) || block) (stands_below (eq_by_cmp entry_cmp) place_in lower slot) (stands_below same_version version_in lower slot) (stands_below nat_eq named_in lower slot) whole
+
+-- ---- what a slot repeats
+
+part_at : {K : Type 0} (part : Option Record → Option K) → part None ≡ None → (area : Area) (k : ℕ) → get_or (list_map part area) k None ≡ part (get_or area k None)
+part_at part none [] k = sym none
+part_at part none (slot ∷ area) zero = refl
+part_at part none (slot ∷ area) (suc k) = part_at part none area k
+
+pub repeat_is : {K : Type 0} (same : K → K → Bool) (part : Option Record → Option K) → part None ≡ None → (area : Area) (k : ℕ)
+    → repeats same (list_map part area) k ≡ stands_below same part (take k area) (slot_at area k)
+repeat_is same part none area k =
+    ap (λ items. option_map_or (stands_in same items) (get_or (list_map part area) k None) false) (take-map part k area)
+    ∙ ap (λ o. option_map_or (stands_in same (list_map part (take k area))) o false) (part_at part none area k)

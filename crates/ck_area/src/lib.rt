@@ -2,6 +2,7 @@
 #![tactic(auto)]
 
 mod alone;
+mod broken;
 mod crowd;
 mod forms;
 mod holder;
@@ -13,6 +14,7 @@ mod repeats;
 mod whole;
 mod writing;
 
+pub use broken::first_damage;
 pub use forms::is_unbuilt;
 pub use reading::{read_block, slot_in};
 pub use writing::spell_block;
