@@ -50,8 +50,7 @@ module _ (held : Key × ℕ → Option Held) (key : Key) (fs : ℕ) where
 
   pub found_here : (found : Key) (id : ℕ) (value : Held) → IsFirstBehind held (key, fs) (Some ((found, id), value)) → found ≡ key → IsNewerHolder (λ n. held (key, n)) fs (Some (id, value))
   found_here found id value h same =
-      let behind = subst (λ (k : Key). column_order (key, fs) (k, id) ≡ Less) same h.0 in
-      (
+      let behind = subst (λ (k : Key). column_order (key, fs) (k, id) ≡ Less) same h.0 in (
         is_less fs id (sym (same_key key (nat_cmp fs id)) ∙ behind),
         subst (λ (k : Key). held (k, id) ≡ Some value) same h.1,
         λ n above below. none_unless (held (key, n)) (λ some.
@@ -73,7 +72,7 @@ module _ (held : Key × ℕ → Option Held) (key : Key) (fs : ℕ) where
   pub found_elsewhere : (found : Key) (id : ℕ) (value : Held) → IsFirstBehind held (key, fs) (Some ((found, id), value)) → (found ≡ key → ⊥) → IsNewerHolder (λ n. held (key, n)) fs None
   found_elsewhere found id value h other n above =
       none_unless (held (key, n)) (λ some.
-          beyond found id n (key_cmp key found) refl other h.0 (h.2 (key, n) (same_key key (nat_cmp fs n) ∙ less_is fs n above) some))
+      beyond found id n (key_cmp key found) refl other h.0 (h.2 (key, n) (same_key key (nat_cmp fs n) ∙ less_is fs n above) some))
 
 -- the test for the same key
 pub derived_same : (x y : Key) → (same.ghosts).eq x y ≡ eq_by_cmp key_cmp x y

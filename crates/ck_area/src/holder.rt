@@ -28,8 +28,14 @@ fn newer_holder(
     ensures { IsNewerHolder (λ id. tree.get column_order entries.now (key.now, id)) fileset result }
 {
     match first_behind(entries, (*key, fileset)) {
-        Some(((found, id), held)) if found == *key => Some((id, held)),
-        _ => None,
+        Some((place, held)) => {
+            if place.0 == *key {
+                Some((place.1, held))
+            } else {
+                None
+            }
+        }
+        None => None,
     }
 }
 

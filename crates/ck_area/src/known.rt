@@ -38,10 +38,7 @@ fn note_fileset(known: &mut BTreeMap<u32, Fileset>, slot: &Option<Record>) -> Re
 }
 
 /// The checkpoints of a table by their ids: of several with one id, that in the lowest slot.
-fn filesets_in(
-    alloc: Global,
-    area: &[Option<Record>],
-) -> Result<BTreeMap<u32, Fileset>, NoMemory>
+fn filesets_in(alloc: Global, area: &[Option<Record>]) -> Result<BTreeMap<u32, Fileset>, NoMemory>
     ensures { IfOk result (λ known. (id : ℕ) → tree.get nat_cmp known id ≡ find nat_cmp id (filesets_in area.now)) }
 {
     let mut known = BTreeMap::new(alloc);
@@ -110,10 +107,7 @@ fn data_id(slot: &Option<Record>) -> Option<u32>
 {
     match slot {
         Some(Record::Fileset(id, fileset))
-            if !fileset.gone && matches!(fileset.kind, Kind::Keeping) =>
-        {
-            Some(*id)
-        }
+            if !fileset.gone && matches!(fileset.kind, Kind::Keeping) => { Some(*id) }
         _ => None,
     }
 }

@@ -19,9 +19,13 @@ pub fn version_in(slot: &Option<Record>) -> Option<(Key, u64)>
     ensures { result ≡ version_in slot.now }
 {
     match slot {
-        Some(Record::Entry(_, key, Held::Plain(stamp, _) | Held::Extent(stamp, _) | Held::Mark(stamp))) => {
-            Some((*key, *stamp))
-        }
+        Some(
+            Record::Entry(
+                _,
+                key,
+                Held::Plain(stamp, _) | Held::Extent(stamp, _) | Held::Mark(stamp),
+            ),
+        ) => { Some((*key, *stamp)) }
         _ => None,
     }
 }
