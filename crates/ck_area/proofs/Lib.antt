@@ -8,3 +8,11 @@ pub mod WrittenLemmas
 pub mod NewTable
 pub mod NewWorld
 pub mod DamagedLemmas
+pub mod SlotLemmas
+pub mod ReadingLemmas
+pub mod WritingLemmas
+pub mod OrderLemmas
+pub mod FirstLemmas
+pub mod KnownLemmas
+pub mod HolderLemmas
+pub mod SplitLemmas
