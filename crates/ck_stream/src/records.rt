@@ -1,7 +1,7 @@
 ghost use Rattle.std.specs.Prelude.{◌≡◌, None};
 ghost use Rattle.std.specs.Ordering.{is_lt};
 ghost use Rattle.ck_model.specs.Key.{key_cmp};
-ghost use Rattle.ck_stream.specs.Reading.{Reads, tag_at, name_at, node_at, block_at, key_at, named_at, file_at, bytes_at, item_at, follows, record_at};
+ghost use Rattle.ck_stream.specs.Reading.{Reads, tag_at, name_at, node_at, block_at, key_at, named_at, file_at, bytes_at, item_at, follows, item_in, record_at};
 
 use crate::Item;
 use crate::fault::Flaw;
@@ -42,8 +42,10 @@ fn name_key(bytes: &[u8]) -> Result<(Key, &[u8]), Flaw>
     ensures { Reads (λ x. (x.0, x.1.now)) result (name_at bytes.now) }
 {
     let (directory, rest) = u32_of(bytes)?;
-    let (name, rest) = name_of(rest)?;
-    Ok((Key::Name(directory, name), rest))
+    match name_of(rest) {
+        Ok((name, rest)) => Ok((Key::Name(directory, name), rest)),
+        Err(flaw) => Err(flaw),
+    }
 }
 
 #[tactic(auto, unfolding(crate::specs::Reading::node_at))]
@@ -141,6 +143,22 @@ fn may_follow(last: &Option<Key>, key: &Key) -> bool
     }
 }
 
+/// What stands behind the key, if the key may stand there.
+fn item_behind<'a>(
+    alloc: Global,
+    last: &Option<Key>,
+    tag: Tag,
+    key: Key,
+    bytes: &'a [u8],
+) -> Result<(Item, &'a [u8]), Flaw>
+    ensures { Reads (λ x. (x.0, x.1.now)) result (item_in last.now tag (key, bytes.now)) }
+{
+    if !may_follow(last, &key) {
+        return Err(Flaw::Wrong);
+    }
+    item_of(alloc, tag, key, bytes)
+}
+
 /// The record that begins with this tag, behind the tag.
 #[tactic(auto, unfolding(crate::specs::Reading::record_at))]
 pub fn record_of<'a>(
@@ -153,9 +171,8 @@ pub fn record_of<'a>(
     ensures { Reads (λ x. (x.0, x.1.now)) result (record_at full last.now number bytes.now) }
 {
     let tag = tag_of(full, number)?;
-    let (key, rest) = key_of(tag, bytes)?;
-    if !may_follow(last, &key) {
-        return Err(Flaw::Wrong);
+    match key_of(tag, bytes) {
+        Ok((key, rest)) => item_behind(alloc, last, tag, key, rest),
+        Err(flaw) => Err(flaw),
     }
-    item_of(alloc, tag, key, rest)
 }
