@@ -157,3 +157,109 @@ record_at full last number bytes = do
   tag ← tag_at full number
   key ← key_at tag bytes
   item_in last tag key
+
+-- ---- the header
+
+abbrev pub id_in : ℕ × List ℕ → Result (ℕ × List ℕ) Flaw
+id_in id = if nat_eq id.0 0 then Err flaw.Wrong else Ok id
+
+unfoldable pub id_at : List ℕ → Result (ℕ × List ℕ) Flaw
+id_at bytes = do
+  id ← number_at w32 bytes
+  id_in id
+
+unfoldable pub full_header_at : List ℕ → Result (Header × List ℕ) Flaw
+full_header_at bytes = do
+  id ← id_at bytes
+  Ok (header.Full id.0, id.1)
+
+-- the earlier id isn't above the later
+abbrev pub later_in : ℕ → ℕ × List ℕ → Result (Header × List ℕ) Flaw
+later_in earlier later =
+    if nat_lt later.0 earlier then Err flaw.Wrong else Ok (header.Changed earlier later.0, later.1)
+
+unfoldable pub changed_header_at : List ℕ → Result (Header × List ℕ) Flaw
+changed_header_at bytes = do
+  earlier ← id_at bytes
+  later ← number_at w32 earlier.1
+  later_in earlier.0 later
+
+abbrev pub magic_in : List ℕ × List ℕ → Result (Header × List ℕ) Flaw
+magic_in magic =
+    if pointwise nat_eq magic.0 full_magic then full_header_at magic.1
+    else if pointwise nat_eq magic.0 changed_magic then changed_header_at magic.1
+    else Err flaw.Wrong
+
+unfoldable pub header_at : List ℕ → Result (Header × List ℕ) Flaw
+header_at bytes = do
+  magic ← run_at 8 bytes
+  magic_in magic
+
+abbrev pub is_full : Header → Bool
+is_full (header.Full id) = true
+is_full (header.Changed earlier later) = false
+
+-- the stream with this header and these records
+abbrev pub made : Header → List Item → Stream
+made (header.Full id) items = stream.Full (record { id = id; items = items })
+made (header.Changed earlier later) items =
+    stream.Changed (record { from = earlier; to = later; items = items })
+
+-- ---- the end
+
+abbrev pub count_in : ℕ → ℕ × List ℕ → Result (List ℕ) Flaw
+count_in count number = if nat_eq number.0 count then Ok number.1 else Err flaw.Wrong
+
+-- the number of records, and the digest that is kept
+unfoldable pub end_at : ℕ → List ℕ → Result (List ℕ × List ℕ) Flaw
+end_at count bytes = do
+  number ← number_at w64 bytes
+  rest ← count_in count number
+  run_at 32 rest
+
+-- ---- the stream, with the places of its faults
+
+-- a part that is too short is one of the whole input, which has so many bytes, and a wrong one
+-- stands at its place
+abbrev pub fault_at : ℕ → ℕ → Flaw → StreamFault
+fault_at total place flaw.Short = fault.Truncated total
+fault_at total place flaw.Wrong = fault.NotStream place
+fault_at total place flaw.NoMemory = fault.NoMemory
+
+abbrev pub located : {A : Type 0} → ℕ → ℕ → Result A Flaw → Result A StreamFault
+located total place (Ok x) = Ok x
+located total place (Err why) = Err (fault_at total place why)
+
+-- the records up to the end's tag, of which there are at most so many: each has a byte at least
+unfoldable pub items_at : ℕ → ℕ → Bool → Option Key → List ℕ → Result (List Item × List ℕ) StreamFault
+items_at zero total full last bytes = Err (fault.Truncated total)
+items_at (suc n) total full last [] = Err (fault.Truncated total)
+items_at (suc n) total full last (zero ∷ bytes) = Ok ([], bytes)
+items_at (suc n) total full last (suc number ∷ bytes) = do
+  first ← located total (total - suc (length bytes)) (record_at full last (suc number) bytes)
+  others ← items_at n total full (Some (key_of first.0)) first.1
+  Ok (first.0 ∷ others.0, others.1)
+
+-- all bytes from a place on, up to the digest that stands before the rest
+abbrev pub signed : List ℕ → ℕ → List ℕ
+signed bytes rest = take (length bytes - (rest + 32)) bytes
+
+abbrev pub digest_in : List ℕ → List ℕ → Stream × ℕ → Result (Stream × ℕ) StreamFault
+digest_in kept found read = if pointwise nat_eq kept found then Ok read else Err (fault.Digest kept found)
+
+-- the stream that begins at this place, and the place behind it
+unfoldable pub stream_at : List ℕ → ℕ → Result (Stream × ℕ) StreamFault
+stream_at bytes at = do
+  head ← located (length bytes) at (header_at (drop at bytes))
+  items ← items_at (length head.1) (length bytes) (is_full head.0) None head.1
+  end ← located (length bytes) (length bytes - suc (length items.1)) (end_at (length items.0) items.1)
+  digest_in end.0 (sha256 (signed (drop at bytes) (length end.1)))
+    (made head.0 items.0, length bytes - length end.1)
+
+-- what a call answered is what reading gives, unless memory ran out
+abbrev pub Gives : {X Y : Type 0} → (X → Y) → Result X StreamFault → Result Y StreamFault → Type 0
+Gives view (Ok x) read = read ≡ Ok (view x)
+Gives view (Err (fault.NotStream place)) read = read ≡ Err (fault.NotStream place)
+Gives view (Err (fault.Truncated total)) read = read ≡ Err (fault.Truncated total)
+Gives view (Err (fault.Digest kept found)) read = read ≡ Err (fault.Digest kept found)
+Gives view (Err fault.NoMemory) read = ⊤

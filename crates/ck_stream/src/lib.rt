@@ -3,7 +3,9 @@
 
 mod fault;
 mod fields;
+mod header;
 mod item;
+mod reading;
 mod records;
 mod stream;
 mod tag;
