@@ -8,7 +8,7 @@ use Rattle.ck_stream.specs.declared.fault.Flaw.TheVariants as flaw
 use Rattle.ck_stream.specs.declared.fault.StreamFault.{StreamFault}
 use Rattle.ck_stream.specs.declared.fault.StreamFault.TheVariants as fault
 use Rattle.ck_stream.specs.Right.{key_of}
-use Rattle.ck_stream.specs.Reading.{◌>>=◌, Reads, Gives, fault_at, located, record_at, items_at}
+use Rattle.ck_stream.specs.Reading.{◌>>=◌, HasFlaw, HasFault, fault_at, located, record_at, items_at}
 
 abbrev pub Items : Type 0
 Items = Result (List Item × List ℕ) StreamFault
@@ -49,25 +49,25 @@ goes_on front count i total full last rest number after item behind whole lt beg
       rw (k, begins, one_more (count - (i + 1)) total full last number after some, read) (regroup front item (items_at (count - (i + 1)) total full (Some (key_of item)) behind)) in
     sym one ∙ so_far
 
-wrong_here : {X Y : Type 0} (view : X → List Item × List ℕ) (read_view : Y → Item × List ℕ) (why : Flaw) (front : List Item) (total place : ℕ) (read : Result (Item × List ℕ) Flaw) (go : Item × List ℕ → Items) → Reads read_view (Err why) read → Gives view (Err (fault_at total place why)) (with_front front (located total place read >>= go))
-wrong_here view read_view flaw.Short front total place read go given = rw given refl
-wrong_here view read_view flaw.Wrong front total place read go given = rw given refl
-wrong_here view read_view flaw.NoMemory front total place read go given = tt
+wrong_here : (why : Flaw) (front : List Item) (total place : ℕ) (read : Result (Item × List ℕ) Flaw) (go : Item × List ℕ → Items) → HasFlaw why read → HasFault (fault_at total place why) (with_front front (located total place read >>= go))
+wrong_here flaw.Short front total place read go given = rw given refl
+wrong_here flaw.Wrong front total place read go given = rw given refl
+wrong_here flaw.NoMemory front total place read go given = tt
 
-stops : {X Y : Type 0} (view : X → List Item × List ℕ) (read_view : Y → Item × List ℕ) (why : Flaw) (front : List Item) (count i total : ℕ) (full : Bool) (last : Option Key) (rest : List ℕ) (number : ℕ) (after : List ℕ) (whole : Items) → i < count → rest ≡ number ∷ after → number ≢ 0 → Reads read_view (Err why) (record_at full last number after)
-    → with_front front (items_at (count - i) total full last rest) ≡ whole → Gives view (Err (fault_at total (total - length rest) why)) whole
-stops view read_view why front count i total full last rest number after whole lt begins some given so_far =
+stops : (why : Flaw) (front : List Item) (count i total : ℕ) (full : Bool) (last : Option Key) (rest : List ℕ) (number : ℕ) (after : List ℕ) (whole : Items) → i < count → rest ≡ number ∷ after → number ≢ 0 → HasFlaw why (record_at full last number after)
+    → with_front front (items_at (count - i) total full last rest) ≡ whole → HasFault (fault_at total (total - length rest) why) whole
+stops why front count i total full last rest number after whole lt begins some given so_far =
     let k : count - i ≡ suc (count - (i + 1)) = omega arith in
     let go = λ (first : Item × List ℕ). items_at (count - (i + 1)) total full (Some (key_of first.0)) first.1 >>= λ others. Ok (first.0 ∷ others.0, others.1) in
     let one : with_front front (items_at (count - i) total full last rest) ≡ with_front front (located total (total - length rest) (record_at full last number after) >>= go) =
       rw (k, begins, one_more (count - (i + 1)) total full last number after some) refl in
-    subst (λ (read : Items). Gives view (Err (fault_at total (total - length rest) why)) read) (sym one ∙ so_far) (wrong_here view read_view why front total (total - length rest) (record_at full last number after) go given)
+    subst (λ (read : Items). HasFault (fault_at total (total - length rest) why) read) (sym one ∙ so_far) (wrong_here why front total (total - length rest) (record_at full last number after) go given)
 
 -- the same, of a fault and a place that are equal to these
-pub stops_as : {X Y : Type 0} (view : X → List Item × List ℕ) (read_view : Y → Item × List ℕ) (why : Flaw) (answer : StreamFault) (place : ℕ) (front : List Item) (count i total : ℕ) (full : Bool) (last : Option Key) (rest : List ℕ) (number : ℕ) (after : List ℕ) (whole : Items) → answer ≡ fault_at total place why → place ≡ total - length rest → i < count → rest ≡ number ∷ after → number ≢ 0 → Reads read_view (Err why) (record_at full last number after)
-    → with_front front (items_at (count - i) total full last rest) ≡ whole → Gives view (Err answer) whole
-stops_as view read_view why answer place front count i total full last rest number after whole is stands lt begins some given so_far =
-    subst (λ (f : StreamFault). Gives view (Err f) whole) (sym (is ∙ ap (λ (at : ℕ). fault_at total at why) stands)) (stops view read_view why front count i total full last rest number after whole lt begins some given so_far)
+pub stops_as : (why : Flaw) (answer : StreamFault) (place : ℕ) (front : List Item) (count i total : ℕ) (full : Bool) (last : Option Key) (rest : List ℕ) (number : ℕ) (after : List ℕ) (whole : Items) → answer ≡ fault_at total place why → place ≡ total - length rest → i < count → rest ≡ number ∷ after → number ≢ 0 → HasFlaw why (record_at full last number after)
+    → with_front front (items_at (count - i) total full last rest) ≡ whole → HasFault answer whole
+stops_as why answer place front count i total full last rest number after whole is stands lt begins some given so_far =
+    subst (λ (f : StreamFault). HasFault f whole) (sym (is ∙ ap (λ (at : ℕ). fault_at total at why) stands)) (stops why front count i total full last rest number after whole lt begins some given so_far)
 
 pub is_out : (front : List Item) (count i total : ℕ) (full : Bool) (last : Option Key) (rest : List ℕ) (whole : Items) → count ≤ i → with_front front (items_at (count - i) total full last rest) ≡ whole → whole ≡ Err (fault.Truncated total)
 unfolding items_at

@@ -31,11 +31,14 @@ abbrev pub ◌>>=◌ : {A B E : Type 0} → Result A E → (A → Result B E) �
 (Err e) >>= f = Err e
 
 -- what a call answered is what reading gives, unless memory ran out
+abbrev pub HasFlaw : {Y : Type 0} → Flaw → Result Y Flaw → Type 0
+HasFlaw flaw.Short read = read ≡ Err flaw.Short
+HasFlaw flaw.Wrong read = read ≡ Err flaw.Wrong
+HasFlaw flaw.NoMemory read = ⊤
+
 abbrev pub Reads : {X Y : Type 0} → (X → Y) → Result X Flaw → Result Y Flaw → Type 0
 Reads view (Ok x) read = read ≡ Ok (view x)
-Reads view (Err flaw.Short) read = read ≡ Err flaw.Short
-Reads view (Err flaw.Wrong) read = read ≡ Err flaw.Wrong
-Reads view (Err flaw.NoMemory) read = ⊤
+Reads view (Err why) read = HasFlaw why read
 
 -- ---- fields: a value, and the bytes behind it
 
@@ -257,9 +260,12 @@ stream_at bytes at = do
     (made head.0 items.0, length bytes - length end.1)
 
 -- what a call answered is what reading gives, unless memory ran out
+abbrev pub HasFault : {Y : Type 0} → StreamFault → Result Y StreamFault → Type 0
+HasFault (fault.NotStream place) read = read ≡ Err (fault.NotStream place)
+HasFault (fault.Truncated total) read = read ≡ Err (fault.Truncated total)
+HasFault (fault.Digest kept found) read = read ≡ Err (fault.Digest kept found)
+HasFault fault.NoMemory read = ⊤
+
 abbrev pub Gives : {X Y : Type 0} → (X → Y) → Result X StreamFault → Result Y StreamFault → Type 0
 Gives view (Ok x) read = read ≡ Ok (view x)
-Gives view (Err (fault.NotStream place)) read = read ≡ Err (fault.NotStream place)
-Gives view (Err (fault.Truncated total)) read = read ≡ Err (fault.Truncated total)
-Gives view (Err (fault.Digest kept found)) read = read ≡ Err (fault.Digest kept found)
-Gives view (Err fault.NoMemory) read = ⊤
+Gives view (Err why) read = HasFault why read

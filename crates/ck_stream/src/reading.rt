@@ -2,10 +2,10 @@ ghost use Rattle.std.specs.Prelude.{◌≡◌, ◌≤◌, ◌<◌, ◌^◌, ◌-
 ghost use Rattle.sha2.specs.Sha256.{sha256};
 ghost use Rattle.ck_stream.specs.declared.fault.StreamFault.TheVariants as faults;
 ghost use Rattle.ck_stream.specs.Right.{key_of};
-ghost use Rattle.ck_stream.specs.Reading.{Reads, Gives, fault_at, located, header_at, items_at, end_at, signed, digest_in, stream_at};
+ghost use Rattle.ck_stream.specs.Reading.{Reads, Gives, run_at, fault_at, located, header_at, items_at, end_at, signed, stream_at};
 
 use crate::fault::Flaw;
-use crate::fields::{run_of, u64_of};
+use crate::fields::u64_of;
 use crate::header::{header_of, is_full, made};
 use crate::records::record_of;
 use crate::tag::Header;
@@ -88,16 +88,25 @@ fn items_of(
     Err(StreamFault::Truncated(total as u64))
 }
 
+fn digest_bytes(bytes: &[u8]) -> Result<([u8; 32], &[u8]), Flaw>
+    ensures { Reads (λ x. (x.0, x.1.now)) result (run_at 32 bytes.now) }
+{
+    match bytes.split_first_chunk::<32>() {
+        Some((digest, rest)) => Ok((*digest, rest)),
+        None => Err(Flaw::Short),
+    }
+}
+
 /// The digest that is kept behind the number of records, and the bytes behind it.
 #[tactic(auto, unfolding(crate::specs::Reading::end_at))]
-fn end_of(count: usize, bytes: &[u8]) -> Result<(&[u8], &[u8]), Flaw>
-    ensures { Reads (λ x. (x.0.now, x.1.now)) result (end_at count bytes.now) }
+fn end_of(count: usize, bytes: &[u8]) -> Result<([u8; 32], &[u8]), Flaw>
+    ensures { Reads (λ x. (x.0, x.1.now)) result (end_at count bytes.now) }
 {
     let (number, rest) = u64_of(bytes)?;
     if number != count as u64 {
         return Err(Flaw::Wrong);
     }
-    run_of(DIGEST_LEN, rest)
+    digest_bytes(rest)
 }
 
 /// The SHA-256 of all bytes up to the digest that stands before the rest.
@@ -109,8 +118,8 @@ fn digest_of(bytes: &[u8], rest: usize) -> [u8; 32]
     Sha256::digest(signed)
 }
 
-fn end_in(total: usize, count: usize, bytes: &[u8]) -> Result<(&[u8], &[u8]), StreamFault>
-    ensures { Gives (λ x. (x.0.now, x.1.now)) result
+fn end_in(total: usize, count: usize, bytes: &[u8]) -> Result<([u8; 32], &[u8]), StreamFault>
+    ensures { Gives (λ x. (x.0, x.1.now)) result
         (located total (total - suc (length bytes.now)) (end_at count bytes.now)) }
 {
     match end_of(count, bytes) {
@@ -120,4 +129,23 @@ fn end_in(total: usize, count: usize, bytes: &[u8]) -> Result<(&[u8], &[u8]), St
             Err(fault_at(flaw, total, place))
         }
     }
+}
+
+#[tactic(auto, unfolding(crate::specs::Reading::stream_at))]
+fn stream_in(alloc: Global, bytes: &[u8], at: usize) -> Result<(Stream, usize), StreamFault>
+    requires { at ≤ length bytes.now }
+    ensures { Gives (λ x. x) result (stream_at bytes.now at) }
+{
+    let (header, rest) = header_in(bytes, at)?;
+    let (items, rest) = match items_of(alloc, is_full(header), bytes.len(), rest) {
+        Ok(read) => read,
+        Err(fault) => return Err(fault),
+    };
+    let (kept, rest) = end_in(bytes.len(), items.len(), rest)?;
+    let found = digest_of(&bytes[at..], rest.len());
+    if kept != found {
+        return Err(StreamFault::Digest { kept, found });
+    }
+    let end = bytes.len().saturating_sub(rest.len());
+    Ok((made(header, Items::of(items)), end))
 }

@@ -17,7 +17,7 @@ returns-in-Some-eq0-default c =
 
 pub returns-in-Err : goal.returns-in-Err
 returns-in-Err c =
-    stops_as _ _ c.in-Err.flaw c.fault_at.result c.saturating_sub.result c.loop.items.items (length c.args.bytes.now) c.loop.counter c.args.total c.args.full c.loop.last c.loop.rest.now c.in-Some.number c.in-Some.after.now
+    stops_as c.in-Err.flaw c.fault_at.result c.saturating_sub.result c.loop.items.items (length c.args.bytes.now) c.loop.counter c.args.total c.args.full c.loop.last c.loop.rest.now c.in-Some.number c.in-Some.after.now
     (items_at (length c.args.bytes.now) c.args.total c.args.full None c.args.bytes.now) c.fault_at.ensures c.saturating_sub.ensures c.loop-test.true c.in-Some.ensures c.in-Some.number-test.1 c.in-Err.ensures c.loop.invariant
 
 pub loop-preserved : goal.loop-preserved
