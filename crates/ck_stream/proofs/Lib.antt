@@ -1,2 +1,5 @@
 pub mod Names
 pub mod Loop
+pub mod FieldLaws
+pub mod KeyLaws
+pub mod RecordLaws
