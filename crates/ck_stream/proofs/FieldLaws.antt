@@ -38,7 +38,7 @@ pub met : {A E : Type 0} (b : Bool) (d : E) (r : Result A E) (y : A) → cond b 
 met true d r y e = (refl, e)
 met false d r y e = absurd cc
 
-abbrev done : {A : Type 0} → A → Result A Flaw
+abbrev pub done : {A : Type 0} → A → Result A Flaw
 done x = Ok x
 
 pub ok_is : {A : Type 0} (x y : A) → done x ≡ done y → x ≡ y

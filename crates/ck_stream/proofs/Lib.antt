@@ -3,3 +3,4 @@ pub mod Loop
 pub mod FieldLaws
 pub mod KeyLaws
 pub mod RecordLaws
+pub mod ItemsLaws

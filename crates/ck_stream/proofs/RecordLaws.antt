@@ -19,7 +19,7 @@ use Rattle.ck_stream.specs.Spelling.{key_text, payload_text, item_text}
 use Rattle.ck_stream.specs.Right.{size_limit, block_len, Holds, key_of, IsItem, IsPut}
 use Rattle.ck_stream.specs.Reading.{◌>>=◌, number_at, run_at, tag_at, key_at, named_at, size_in, file_at, bytes_at, item_at, follows, item_in, record_at}
 use Rattle.ck_stream.proofs.Names.{Decides-le}
-use Rattle.ck_stream.proofs.FieldLaws.{IsBytes, IsBytes-rest, bind_ok, passed, met, ok_is, Takes, Takes-then, word_takes, word_again, long_takes, long_again, run_takes, run_again}
+use Rattle.ck_stream.proofs.FieldLaws.{IsBytes, IsBytes-rest, bind_ok, passed, met, done, ok_is, Takes, Takes-then, word_takes, word_again, long_takes, long_again, run_takes, run_again}
 use Rattle.ck_stream.proofs.KeyLaws.{kind_of, kind_for, KeyTaken, key_takes, name_again, node_again, block_again}
 
 abbrev pub number_of : Tag → ℕ
@@ -50,7 +50,7 @@ choose : {A : Type 0} (b : Bool) (x y : Result A Flaw) (z : A) (P : Type 0) → 
 choose true x y z P e so other = so refl e
 choose false x y z P e so other = other refl e
 
-found_tag : (full : Bool) (byte n : ℕ) (found t : Tag) → nat_eq byte n ≡ true → n ≡ number_of found → (full ≡ true → PutsOnly found) → Ok {E = Flaw} found ≡ Ok t → TagRead full byte t
+found_tag : (full : Bool) (byte n : ℕ) (found t : Tag) → nat_eq byte n ≡ true → n ≡ number_of found → (full ≡ true → PutsOnly found) → done found ≡ done t → TagRead full byte t
 found_tag full byte n found t test number puts e =
     subst (λ (x : Tag). TagRead full byte x) (ok_is found t e) (record { number = eqb-true byte n test ∙ number; puts = puts })
 
@@ -126,7 +126,7 @@ bytes_takes (Block node index) bytes read kind right fits e =
     let made : Item × List ℕ = (Put key (Bytes a.0.0), a.0.1) in
     subst (λ (x : Item × List ℕ). ItemTaken tag.Block key bytes x) (ok_is made read a.2) (record { takes = first.takes; key_is = refl; text = refl; right = (right, first.len); puts = λ _. tt })
 
-dir_takes : (key : Key) (bytes : List ℕ) (read : Item × List ℕ) → kind_of key ≡ 1 → IsKey key → IsBytes bytes → Ok {E = Flaw} (Put key Dir, bytes) ≡ Ok read → ItemTaken tag.Dir key bytes read
+dir_takes : (key : Key) (bytes : List ℕ) (read : Item × List ℕ) → kind_of key ≡ 1 → IsKey key → IsBytes bytes → done (Put key Dir, bytes) ≡ done read → ItemTaken tag.Dir key bytes read
 dir_takes (Name directory name) bytes read kind right fits e = absurd (omega arith)
 dir_takes (Node node) bytes read kind right fits e =
     let key : Key = Node node in
@@ -134,7 +134,7 @@ dir_takes (Node node) bytes read kind right fits e =
     subst (λ (x : Item × List ℕ). ItemTaken tag.Dir key bytes x) (ok_is made read e) (record { takes = record { parts = refl; rest_fits = fits }; key_is = refl; text = refl; right = (right, tt); puts = λ _. tt })
 dir_takes (Block node index) bytes read kind right fits e = absurd (omega arith)
 
-removed_takes : (t : Tag) (key : Key) (bytes : List ℕ) (read : Item × List ℕ) → item_text (Removed key) ≡ number_of t ∷ key_text key → (PutsOnly t → ⊥) → IsKey key → IsBytes bytes → Ok {E = Flaw} (Removed key, bytes) ≡ Ok read → ItemTaken t key bytes read
+removed_takes : (t : Tag) (key : Key) (bytes : List ℕ) (read : Item × List ℕ) → item_text (Removed key) ≡ number_of t ∷ key_text key → (PutsOnly t → ⊥) → IsKey key → IsBytes bytes → done (Removed key, bytes) ≡ done read → ItemTaken t key bytes read
 removed_takes t key bytes read text removes right fits e =
     let made : Item × List ℕ = (Removed key, bytes) in
     subst (λ (x : Item × List ℕ). ItemTaken t key bytes x) (ok_is made read e) (record {
