@@ -65,15 +65,11 @@ follows_first (Some last) item items h =
 
 -- ---- what is read
 
-given : {A : Type 0} → A → Result A StreamFault
-unfolding given
-given x = Ok x
-
 pub got : {A : Type 0} (x y : A) → ◌≡◌ {A = Result A StreamFault} (Ok x) (Ok y) → x ≡ y
 got x y e = cc
 
 pub located_ok : {A : Type 0} (total place : ℕ) (read : Result A Flaw) (x : A) → located total place read ≡ Ok x → read ≡ Ok x
-located_ok total place (Ok y) x e = ap (λ (z : Result _ StreamFault). elim z as (λ _. Result _ Flaw) [ Ok v ↦ Ok v | Err why ↦ Ok y ]) e
+located_ok total place (Ok y) x e = ap (λ v. Ok v) (got y x e)
 located_ok total place (Err why) x e = absurd cc
 
 pub record ItemsTaken (full : Bool) (last : Option Key) (bytes : List ℕ) (read : List Item × List ℕ) : Type 0 where
