@@ -4,3 +4,4 @@ pub mod FieldLaws
 pub mod KeyLaws
 pub mod RecordLaws
 pub mod ItemsLaws
+pub mod HeaderLaws

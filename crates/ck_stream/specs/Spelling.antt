@@ -1,5 +1,5 @@
 -- The bytes of a stream. Numbers stand high byte first.
-use Rattle.std.specs.Prelude.{ℕ, List, [], ◌∷◌, ◌++◌, length}
+use Rattle.std.specs.Prelude.{◌≡◌, ◌≤◌, ◌-◌, ℕ, List, [], ◌∷◌, ◌++◌, length, take, drop}
 use Rattle.std.specs.List.{flat_map}
 use Rattle.std.specs.Int.{w32, w64, to_be_bytes}
 use Rattle.sha2.specs.Sha256.{sha256}
@@ -74,3 +74,9 @@ body s = header_text s ++ (items_text (items_of s) ++ end_text (length (items_of
 -- the bytes of a stream
 unfoldable pub text : Stream → List ℕ
 text s = body s ++ sha256 (body s)
+
+-- the bytes from one place to another are these
+pub record StandsIn (bytes : List ℕ) (from to : ℕ) (part : List ℕ) : Type 0 where
+  pub order : from ≤ to
+  pub within : to ≤ length bytes
+  pub same : take (to - from) (drop from bytes) ≡ part
