@@ -5,3 +5,4 @@ pub mod KeyLaws
 pub mod RecordLaws
 pub mod ItemsLaws
 pub mod HeaderLaws
+pub mod StreamLaws
