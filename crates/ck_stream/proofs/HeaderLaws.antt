@@ -67,11 +67,13 @@ changed_takes bytes read fits e =
     let order : a.0.0 ≤ b.0.0 = ltb-false _ _ g.0 in
     let first = id_takes bytes a.0 fits a.1 in
     let second = word_takes a.0.1 b.0 first.takes.rest_fits b.1 in
-    subst (λ (x : Header × List ℕ). IdsTaken bytes x × ((items : List Item) → header_text (made x.0 items) ≡ changed_magic ++ ids_text x.0)) (ok_is found read g.1)
-    (record {
-      takes = Takes-then bytes (to_be_bytes w32 a.0.0) a.0.1 (to_be_bytes w32 b.0.0) b.0.1 first.takes second.takes;
-      right = (first.some, order, second.below);
-    }, λ items. refl)
+    subst (λ (x : Header × List ℕ). IdsTaken bytes x × ((items : List Item) → header_text (made x.0 items) ≡ changed_magic ++ ids_text x.0)) (ok_is found read g.1) (
+      record {
+        takes = Takes-then bytes (to_be_bytes w32 a.0.0) a.0.1 (to_be_bytes w32 b.0.0) b.0.1 first.takes second.takes;
+        right = (first.some, order, second.below);
+      },
+      λ items. refl,
+    )
 
 pub record HeaderTaken (bytes : List ℕ) (read : Header × List ℕ) : Type 0 where
   pub takes : (items : List Item) → Takes bytes (header_text (made read.0 items)) read.1

@@ -104,7 +104,7 @@ items_take (suc n) total full last (suc number ∷ bytes) read fits e =
     let both = Takes-then (suc number ∷ bytes) (item_text a.0.0) a.0.1 (items_text b.0.0 ++ 0 ∷ []) b.0.1 first.takes others.takes in
     let made : List Item × List ℕ = (a.0.0 ∷ b.0.0, b.0.1) in
     let text : item_text a.0.0 ++ (items_text b.0.0 ++ 0 ∷ []) ≡ items_text (a.0.0 ∷ b.0.0) ++ 0 ∷ [] =
-      sym (append_assoc (item_text a.0.0) (items_text b.0.0) (0 ∷ [])) ∙ ap (λ (x : List ℕ). x ++ 0 ∷ []) (sym (flat_map-cons item_text a.0.0 b.0.0)) in
+    sym (append_assoc (item_text a.0.0) (items_text b.0.0) (0 ∷ [])) ∙ ap (λ (x : List ℕ). x ++ 0 ∷ []) (sym (flat_map-cons item_text a.0.0 b.0.0)) in
     let first_below : below_all key_cmp (change_of a.0.0).0 (changes b.0.0) ≡ true = ap (λ (key : Key). below_all key_cmp key (changes b.0.0)) (key_of_change a.0.0) ∙ others.order in
     subst (λ (x : List Item × List ℕ). ItemsTaken full last (suc number ∷ bytes) x) (got made read b.2) (record {
       takes = record { parts = both.parts ∙ ap (λ (x : List ℕ). x ++ b.0.1) text; rest_fits = both.rest_fits };
@@ -145,7 +145,7 @@ items_again (item ∷ items) zero total full last rest each puts sorted order lt
 items_again (item ∷ items) (suc n) total full last rest each puts sorted order lt =
     let more = items_text items ++ 0 ∷ rest in
     let regrouped : items_text (item ∷ items) ++ 0 ∷ rest ≡ item_text item ++ more =
-      ap (λ (x : List ℕ). x ++ 0 ∷ rest) (flat_map-cons item_text item items) ∙ append_assoc (item_text item) (items_text items) (0 ∷ rest) in
+    ap (λ (x : List ℕ). x ++ 0 ∷ rest) (flat_map-cons item_text item items) ∙ append_assoc (item_text item) (items_text items) (0 ∷ rest) in
     let parts = split (below_all key_cmp (change_of item).0 (changes items)) (is_sorted key_cmp (changes items)) sorted in
     let next : below_all key_cmp (key_of item) (changes items) ≡ true = ap (λ (key : Key). below_all key_cmp key (changes items)) (sym (key_of_change item)) ∙ parts.0 in
     let again = record_again full last item more each.0 (λ h. (puts h).0) (follows_first last item items order) in

@@ -46,7 +46,7 @@ pub goes_on : (front : List Item) (count i total : ℕ) (full : Bool) (last : Op
 goes_on front count i total full last rest number after item behind whole lt begins some read so_far =
     let k : count - i ≡ suc (count - (i + 1)) = omega arith in
     let one : with_front front (items_at (count - i) total full last rest) ≡ with_front (front ++ item ∷ []) (items_at (count - (i + 1)) total full (Some (key_of item)) behind) =
-      rw (k, begins, one_more (count - (i + 1)) total full last number after some, read) (regroup front item (items_at (count - (i + 1)) total full (Some (key_of item)) behind)) in
+    rw (k, begins, one_more (count - (i + 1)) total full last number after some, read) (regroup front item (items_at (count - (i + 1)) total full (Some (key_of item)) behind)) in
     sym one ∙ so_far
 
 wrong_here : (why : Flaw) (front : List Item) (total place : ℕ) (read : Result (Item × List ℕ) Flaw) (go : Item × List ℕ → Items) → HasFlaw why read → HasFault (fault_at total place why) (with_front front (located total place read >>= go))
@@ -60,7 +60,7 @@ stops why front count i total full last rest number after whole lt begins some g
     let k : count - i ≡ suc (count - (i + 1)) = omega arith in
     let go = λ (first : Item × List ℕ). items_at (count - (i + 1)) total full (Some (key_of first.0)) first.1 >>= λ others. Ok (first.0 ∷ others.0, others.1) in
     let one : with_front front (items_at (count - i) total full last rest) ≡ with_front front (located total (total - length rest) (record_at full last number after) >>= go) =
-      rw (k, begins, one_more (count - (i + 1)) total full last number after some) refl in
+    rw (k, begins, one_more (count - (i + 1)) total full last number after some) refl in
     subst (λ (read : Items). HasFault (fault_at total (total - length rest) why) read) (sym one ∙ so_far) (wrong_here why front total (total - length rest) (record_at full last number after) go given)
 
 -- the same, of a fault and a place that are equal to these

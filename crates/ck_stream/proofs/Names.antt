@@ -25,8 +25,8 @@ file_name-Decides bytes =
     (λ h. record { name = record { some = h.0.0.0.0; few = h.0.0.0.1; each = h.0.0.1 }; not_dot = h.0.1; not_dots = h.1 })
     (λ h. ((((h.name.some, h.name.few), h.name.each), h.not_dot), h.not_dots))
     (Decides-and _ _ (Decides-and _ _ (Decides-and _ _ (Decides-and _ _
-      (Decides-le 1 (length bytes)) (Decides-le (length bytes) 40)) (name_bytes-Decides bytes))
-      (Decides-not _ (bytes_decides bytes (46 ∷ [])))) (Decides-not _ (bytes_decides bytes (46 ∷ 46 ∷ []))))
+    (Decides-le 1 (length bytes)) (Decides-le (length bytes) 40)) (name_bytes-Decides bytes))
+    (Decides-not _ (bytes_decides bytes (46 ∷ [])))) (Decides-not _ (bytes_decides bytes (46 ∷ 46 ∷ []))))
 
 -- what the test of a name that was read says
 pub is_test : (r : Bool) (bytes : List ℕ) → (IsTrue r ↔ IsFileName bytes) → r ≡ is_file_name bytes

@@ -1,6 +1,6 @@
 -- The stream that is read is the one that was written, and what was written is read again.
 use Rattle.std.proofs.Common.{◌≡◌, ℕ, suc, ◌+◌, ◌-◌, ◌^◌, ◌<◌, ◌≤◌, Bool, true, false, cond, List, [], ◌∷◌, ◌++◌, length, take, drop, None, Result, Ok, Err, refl, sym, ap, subst, ◌∙◌, append_assoc, length-append, length-drop, arith}
-use Rattle.std.specs.Prelude.{nat_eq}
+use Rattle.std.specs.Prelude.{nat_eq, IfOk}
 use Rattle.std.specs.List.{AllByRecursion}
 use Rattle.std.specs.Cmp.Lexicographic.{pointwise, bytes_decides}
 use Rattle.std.specs.Int.{w64, to_be_bytes}
@@ -18,7 +18,7 @@ use Rattle.ck_stream.specs.declared.stream.Stream.{Stream}
 use Rattle.ck_stream.specs.declared.stream.Stream.TheVariants as stream
 use Rattle.ck_stream.specs.Spelling.{header_text, items_text, items_of, end_text, body, text, StandsIn}
 use Rattle.ck_stream.specs.Right.{IsPut, AreItems, IsStream}
-use Rattle.ck_stream.specs.Reading.{◌>>=◌, located, header_at, items_at, is_full, made, end_at, signed, digest_in, stream_at}
+use Rattle.ck_stream.specs.Reading.{◌>>=◌, located, header_at, items_at, is_full, made, end_at, signed, digest_in, stream_at, Gives}
 use Rattle.ck_stream.proofs.FieldLaws.{IsBytes, IsBytes-drop, bind_ok, met, Takes, Takes-then}
 use Rattle.ck_stream.proofs.ItemsLaws.{located_ok, got, items_take, few_items, items_again}
 use Rattle.ck_stream.proofs.HeaderLaws.{IsHeader, header_takes, header_again, end_takes, end_again}
@@ -124,3 +124,13 @@ stream_again bytes at e (stream.Full full) within right there =
     made_again bytes at e (header.Full full.id) full.items within (right.some, right.id) right.items (λ _. right.puts) right.few there
 stream_again bytes at e (stream.Changed changed) within right there =
     made_again bytes at e (header.Changed changed.from changed.to) changed.items within (right.some, right.order, right.later) right.items (λ h. absurd cc) right.few there
+
+-- ---- what an answer says
+
+pub is_right : (bytes : List ℕ) (at : ℕ) (answer : Result (Stream × ℕ) StreamFault) → at ≤ length bytes → IsBytes bytes → Gives (λ read. read) answer (stream_at bytes at) → IfOk answer (λ read. IsStream read.0)
+is_right bytes at (Ok read) within fits e = (stream_takes bytes at read within fits e).right
+is_right bytes at (Err why) within fits e = tt
+
+pub is_spelled : (bytes : List ℕ) (at : ℕ) (answer : Result (Stream × ℕ) StreamFault) → at ≤ length bytes → IsBytes bytes → Gives (λ read. read) answer (stream_at bytes at) → IfOk answer (λ read. StandsIn bytes at read.1 (text read.0))
+is_spelled bytes at (Ok read) within fits e = (stream_takes bytes at read within fits e).stands_there
+is_spelled bytes at (Err why) within fits e = tt

@@ -257,7 +257,7 @@ stream_at bytes at = do
   items ← items_at (length head.1) (length bytes) (is_full head.0) None head.1
   end ← located (length bytes) (length bytes - suc (length items.1)) (end_at (length items.0) items.1)
   digest_in end.0 (sha256 (signed (drop at bytes) (length end.1)))
-    (made head.0 items.0, length bytes - length end.1)
+      (made head.0 items.0, length bytes - length end.1)
 
 -- what a call answered is what reading gives, unless memory ran out
 abbrev pub HasFault : {Y : Type 0} → StreamFault → Result Y StreamFault → Type 0

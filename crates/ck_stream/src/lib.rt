@@ -9,7 +9,10 @@ mod reading;
 mod records;
 mod stream;
 mod tag;
+mod writing;
 
 pub use fault::{ApplyFault, StreamFault};
 pub use item::{Item, Items};
+pub use reading::read_stream;
 pub use stream::{Changed, Full, Stream};
+pub use writing::{write_changed, write_full};

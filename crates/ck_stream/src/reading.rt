@@ -1,7 +1,9 @@
-ghost use Rattle.std.specs.Prelude.{◌≡◌, ◌≤◌, ◌<◌, ◌^◌, ◌-◌, suc, ◌∷◌, [], None, MatchOption, length, drop};
+ghost use Rattle.std.specs.Prelude.{◌≡◌, ℕ, IfOk, Ok, ◌≤◌, ◌<◌, ◌^◌, ◌-◌, suc, ◌∷◌, [], None, MatchOption, length, drop};
 ghost use Rattle.sha2.specs.Sha256.{sha256};
 ghost use Rattle.ck_stream.specs.declared.fault.StreamFault.TheVariants as faults;
-ghost use Rattle.ck_stream.specs.Right.{key_of};
+ghost use Rattle.ck_stream.specs.declared.stream.Stream.{Stream};
+ghost use Rattle.ck_stream.specs.Spelling.{text, StandsIn};
+ghost use Rattle.ck_stream.specs.Right.{key_of, IsStream};
 ghost use Rattle.ck_stream.specs.Reading.{Reads, Gives, run_at, fault_at, located, header_at, items_at, end_at, signed, stream_at};
 
 use crate::fault::Flaw;
@@ -148,4 +150,21 @@ fn stream_in(alloc: Global, bytes: &[u8], at: usize) -> Result<(Stream, usize), 
     }
     let end = bytes.len().saturating_sub(rest.len());
     Ok((made(header, Items::of(items)), end))
+}
+
+/// The stream that begins at `at`, and the place behind it.
+///
+/// Bytes behind the stream aren't looked at.
+pub fn read_stream(alloc: Global, bytes: &[u8], at: usize) -> Result<(Stream, usize), StreamFault>
+    requires { at ≤ length bytes.now }
+    // What is read is right, and is spelled so.
+    ensures right { IfOk result (λ read. IsStream read.0) }
+    ensures spelled { IfOk result (λ read. StandsIn bytes.now at read.1 (text read.0)) }
+    // What is right and spelled so is read, unless memory runs out.
+    ensures only { (s : Stream) (end : ℕ) → IsStream s → StandsIn bytes.now at end (text s)
+        → Gives (λ read. read) result (Ok (s, end)) }
+    // Which fault it is, and where.
+    ensures exact { Gives (λ read. read) result (stream_at bytes.now at) }
+{
+    stream_in(alloc, bytes, at)
 }
