@@ -1,3 +1,4 @@
 pub mod Spelling
 pub mod Right
 pub mod Reading
+pub mod Merging

@@ -1,5 +1,5 @@
 -- Which records and ids a stream may have.
-use Rattle.std.specs.Prelude.{◌≡◌, ℕ, ◌≤◌, ◌<◌, ◌^◌, true, List, length, map as list_map, Option, Some, None, ⊤}
+use Rattle.std.specs.Prelude.{◌≡◌, ℕ, ◌≤◌, ◌<◌, ◌^◌, true, List, [], ◌∷◌, length, map as list_map, Option, Some, None, ⊤}
 use Rattle.std.specs.List.{AllByRecursion}
 use Rattle.std.specs.FinMap.{is_sorted}
 use Rattle.ck_model.specs.declared.key.Key.{Key}
@@ -49,6 +49,12 @@ change_of (Removed key) = (key, None)
 
 abbrev pub changes : List Item → List (Key × Option Content)
 changes items = list_map change_of items
+
+-- the keys that are put, and what they have
+abbrev pub contents : List Item → List (Key × Content)
+contents [] = []
+contents (Put key payload ∷ items) = (key, Some payload) ∷ contents items
+contents (Removed key ∷ items) = contents items
 
 -- the records are right, and their keys strictly ascend
 pub record AreItems (items : List Item) : Type 0 where

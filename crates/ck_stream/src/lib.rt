@@ -1,6 +1,7 @@
 //! Backup streams: what a checkpoint holds, or what changed between two, as bytes.
 #![tactic(auto)]
 
+mod applying;
 mod fault;
 mod fields;
 mod header;

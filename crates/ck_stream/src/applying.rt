@@ -1,0 +1,115 @@
+ghost use Rattle.std.specs.Prelude.{◌≡◌, ◌≢◌, ◌++◌, ◌∷◌, [], IfOk, OnOk, Err};
+ghost use Rattle.ck_model.specs.Key.{key_cmp};
+ghost use Rattle.ck_model.specs.Streams.{applied};
+ghost use Rattle.ck_stream.specs.declared.fault.ApplyFault.TheVariants as faults;
+ghost use Rattle.ck_stream.specs.Right.{IsFull, IsChanged, contents, changes, key_of};
+ghost use Rattle.ck_stream.specs.Merging.{put_of, puts, is_below, is_at, puts_below, from_key, at_key, behind_key, merged};
+
+use crate::{ApplyFault, Changed, Full, Item, Items};
+use ck_model::{Key, NoMemory, Payload};
+use std::alloc::Global;
+use std::cmp::Ordering;
+
+fn key_of(item: &Item) -> Key
+    ensures { result ≡ key_of item.now }
+{
+    match item {
+        Item::Put(key, _) | Item::Removed(key) => *key,
+    }
+}
+
+fn push(out: &mut Vec<Item>, item: Item) -> Result<(), NoMemory>
+    ensures { OnOk result (out.new.items ≡ out.old.items ++ item ∷ []) }
+{
+    out.push(item)?;
+    Ok(())
+}
+
+/// Adds the record, unless it removes.
+fn put(out: &mut Vec<Item>, item: &Item) -> Result<(), NoMemory>
+    ensures { OnOk result (out.new.items ≡ out.old.items ++ put_of item.now) }
+{
+    match item {
+        Item::Put(key, payload) => push(out, Item::Put(*key, payload.clone()?)),
+        Item::Removed(_) => Ok(()),
+    }
+}
+
+fn put_all(out: &mut Vec<Item>, items: &[Item]) -> Result<(), NoMemory>
+    ensures { OnOk result (out.new.items ≡ out.old.items ++ puts items.now) }
+{
+    for item in items {
+        put(out, item)?;
+    }
+    Ok(())
+}
+
+fn order(a: &Key, b: &Key) -> Ordering
+    ensures { result ≡ key_cmp a.now b.now }
+{
+    a.cmp(b)
+}
+
+fn is_below(key: &Key, item: &Item) -> bool
+    ensures { result ≡ is_below key.now item.now }
+{
+    order(&key_of(item), key).is_lt()
+}
+
+fn is_at(key: &Key, item: &Item) -> bool
+    ensures { result ≡ is_at key.now item.now }
+{
+    order(&key_of(item), key).is_eq()
+}
+
+/// Puts what changes below a key, and gives the changes from that key on.
+fn put_below<'a>(
+    out: &mut Vec<Item>,
+    key: &Key,
+    changes: &'a [Item],
+) -> Result<&'a [Item], NoMemory>
+    ensures put { OnOk result (out.new.items ≡ out.old.items ++ puts_below key.now changes.now) }
+    ensures left { IfOk result (λ rest. rest.now ≡ from_key key.now changes.now) }
+{
+    let mut rest = changes;
+    while let [first, after @ ..] = rest {
+        if !is_below(key, first) {
+            return Ok(rest);
+        }
+        put(out, first)?;
+        rest = after;
+    }
+    Ok(rest)
+}
+
+/// Puts an item, or what the change of its key makes of it, and gives the changes behind that key.
+fn put_at<'a>(
+    out: &mut Vec<Item>,
+    item: Item,
+    changes: &'a [Item],
+) -> Result<&'a [Item], NoMemory>
+    ensures put { OnOk result (out.new.items ≡ out.old.items ++ at_key item changes.now) }
+    ensures left { IfOk result (λ rest. rest.now ≡ behind_key item changes.now) }
+{
+    if let [first, after @ ..] = changes
+        && is_at(&key_of(&item), first)
+    {
+        put(out, first)?;
+        return Ok(after);
+    }
+    push(out, item)?;
+    Ok(changes)
+}
+
+fn merge(alloc: Global, items: Vec<Item>, changes: &[Item]) -> Result<Vec<Item>, NoMemory>
+    ensures { IfOk result (λ out. out.items ≡ merged items.items changes.now) }
+{
+    let mut out = Vec::new(alloc);
+    let mut rest = changes;
+    for item in items {
+        rest = put_below(&mut out, &key_of(&item), rest)?;
+        rest = put_at(&mut out, item, rest)?;
+    }
+    put_all(&mut out, rest)?;
+    Ok(out)
+}
