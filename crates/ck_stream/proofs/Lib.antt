@@ -6,3 +6,4 @@ pub mod RecordLaws
 pub mod ItemsLaws
 pub mod HeaderLaws
 pub mod StreamLaws
+pub mod Merges
