@@ -7,3 +7,4 @@ pub mod ItemsLaws
 pub mod HeaderLaws
 pub mod StreamLaws
 pub mod Merges
+pub mod MergeLaws
