@@ -5,7 +5,7 @@ use Rattle.std.specs.List.{AllByRecursion}
 use Rattle.std.specs.Cmp.Lexicographic.{pointwise, bytes_decides}
 use Rattle.std.specs.Int.{w64, to_be_bytes}
 use Rattle.std.specs.FinMap.{is_sorted}
-use Rattle.std.proofs.lemmas.List.{take_at, take-append-drop}
+use Rattle.std.proofs.lemmas.List.{take_at, take-append-drop, append-nil, nil_from_length}
 use Rattle.sha2.specs.Sha256.{sha256}
 use Rattle.sha2.proofs.Facts256.{length-sha256}
 use Rattle.ck_model.specs.Key.{key_cmp}
@@ -134,3 +134,19 @@ is_right bytes at (Err why) within fits e = tt
 pub is_spelled : (bytes : List ℕ) (at : ℕ) (answer : Result (Stream × ℕ) StreamFault) → at ≤ length bytes → IsBytes bytes → Gives (λ read. read) answer (stream_at bytes at) → IfOk answer (λ read. StandsIn bytes at read.1 (text read.0))
 is_spelled bytes at (Ok read) within fits e = (stream_takes bytes at read within fits e).stands_there
 is_spelled bytes at (Err why) within fits e = tt
+
+-- ---- no stream begins another
+
+begins : (part behind : List ℕ) → StandsIn (part ++ behind) 0 (length part) part
+begins part behind = record { order = omega arith; within = omega (arith, length-append part behind); same = take_at part behind (length part - 0) (omega arith) }
+
+pub none_begins : (s t : Stream) (behind : List ℕ) → IsStream s → IsStream t → text t ≡ text s ++ behind → (behind ≡ []) × (s ≡ t)
+none_begins s t behind right other same =
+    let bytes = text s ++ behind in
+    let first : stream_at bytes 0 ≡ Ok (s, length (text s)) = stream_again bytes 0 (length (text s)) s (omega arith) right (begins (text s) behind) in
+    let whole : StandsIn bytes 0 (length (text t)) (text t) =
+    subst (λ (b : List ℕ). StandsIn b 0 (length (text t)) (text t)) (append-nil (text t) ∙ same) (begins (text t) []) in
+    let second : stream_at bytes 0 ≡ Ok (t, length (text t)) = stream_again bytes 0 (length (text t)) t (omega arith) other whole in
+    let read : (s, length (text s)) ≡ (t, length (text t)) = got (s, length (text s)) (t, length (text t)) (sym first ∙ second) in
+    let lens : length (text s) ≡ length (text t) = ap (λ (x : Stream × ℕ). x.1) read in
+    (nil_from_length behind (omega (arith, length-append (text s) behind, ap length same)), ap (λ (x : Stream × ℕ). x.0) read)

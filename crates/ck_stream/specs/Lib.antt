@@ -2,3 +2,4 @@ pub mod Spelling
 pub mod Right
 pub mod Reading
 pub mod Merging
+pub mod Laws

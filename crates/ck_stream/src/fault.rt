@@ -1,7 +1,9 @@
 ghost use Rattle.std.specs.Prelude.{◌≡◌};
 ghost use Rattle.ck_stream.specs.declared.fault.StreamFault.TheVariants as faults;
 ghost use Rattle.ck_stream.specs.declared.fault.Flaw.TheVariants as flaws;
+ghost use Rattle.ck_stream.specs.declared.fault.ApplyFault.TheVariants as apply_faults;
 
+use ck_model::NoMemory;
 use std::alloc::{AllocError, AllocFailed};
 
 /// Why a stream couldn't be read. Places are counted in bytes from the start of the input.
@@ -38,6 +40,14 @@ pub enum ApplyFault {
     /// The full stream's id, and the earlier id of the changed one.
     WrongBase { has: u32, wants: u32 },
     NoMemory,
+}
+
+impl From<NoMemory> for ApplyFault {
+    ghost from_gives = { λ _ fault. fault ≡ apply_faults.NoMemory };
+
+    fn from(_error: NoMemory) -> ApplyFault {
+        ApplyFault::NoMemory
+    }
 }
 
 /// Why a header or a record couldn't be read.

@@ -10,6 +10,19 @@ pub enum Item {
     Removed(Key),
 }
 
+impl Item {
+    ghost use Rattle.std.specs.Prelude.{◌≡◌};
+    ghost use Rattle.ck_stream.specs.Right.{key_of};
+
+    pub fn key(&self) -> Key
+        ensures { result ≡ key_of self.now }
+    {
+        match self {
+            Item::Put(key, _) | Item::Removed(key) => *key,
+        }
+    }
+}
+
 /// The records of a stream, in order.
 #[derive(Debug, Drop)]
 pub struct Items {

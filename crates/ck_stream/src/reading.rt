@@ -3,7 +3,7 @@ ghost use Rattle.sha2.specs.Sha256.{sha256};
 ghost use Rattle.ck_stream.specs.declared.fault.StreamFault.TheVariants as faults;
 ghost use Rattle.ck_stream.specs.declared.stream.Stream.{Stream};
 ghost use Rattle.ck_stream.specs.Spelling.{text, StandsIn};
-ghost use Rattle.ck_stream.specs.Right.{key_of, IsStream};
+ghost use Rattle.ck_stream.specs.Right.{IsStream};
 ghost use Rattle.ck_stream.specs.Reading.{Reads, Gives, run_at, fault_at, located, header_at, items_at, end_at, signed, stream_at};
 
 use crate::fault::Flaw;
@@ -12,7 +12,6 @@ use crate::header::{header_of, is_full, made};
 use crate::records::record_of;
 use crate::tag::Header;
 use crate::{Item, Items, Stream, StreamFault};
-use ck_model::Key;
 use sha2::{Digest, Sha256};
 use std::alloc::Global;
 
@@ -38,14 +37,6 @@ fn header_in(bytes: &[u8], at: usize) -> Result<(Header, &[u8]), StreamFault>
     match header_of(&bytes[at..]) {
         Ok(read) => Ok(read),
         Err(flaw) => Err(fault_at(flaw, bytes.len(), at)),
-    }
-}
-
-fn key_of(item: &Item) -> Key
-    ensures { result ≡ key_of item.now }
-{
-    match item {
-        Item::Put(key, _) | Item::Removed(key) => *key,
     }
 }
 
@@ -79,7 +70,7 @@ fn items_of(
             Some((0, after)) => return Ok((items, after)),
             Some((number, after)) => match record_of(alloc, full, &last, number, after) {
                 Ok((item, after)) => {
-                    last = Some(key_of(&item));
+                    last = Some(item.key());
                     items.push(item)?;
                     rest = after;
                 }

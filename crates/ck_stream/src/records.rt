@@ -1,15 +1,13 @@
 ghost use Rattle.std.specs.Prelude.{◌≡◌, None};
-ghost use Rattle.std.specs.Ordering.{is_lt};
-ghost use Rattle.ck_model.specs.Key.{key_cmp};
 ghost use Rattle.ck_stream.specs.Reading.{Reads, tag_at, name_at, node_at, block_at, key_at, named_at, file_at, bytes_at, item_at, follows, item_in, record_at};
 
 use crate::Item;
 use crate::fault::Flaw;
 use crate::fields::{name_of, run_of, u32_of, u64_of};
+use crate::order::compare;
 use crate::tag::Tag;
 use ck_model::{Key, Octets, Payload};
 use std::alloc::Global;
-use std::cmp::Ordering;
 
 /// The greatest size of a file.
 const SIZE_LIMIT: u64 = 1_073_741_824;
@@ -121,25 +119,13 @@ fn item_of(alloc: Global, tag: Tag, key: Key, bytes: &[u8]) -> Result<(Item, &[u
     }
 }
 
-fn order(a: &Key, b: &Key) -> Ordering
-    ensures { result ≡ key_cmp a.now b.now }
-{
-    a.cmp(b)
-}
-
-fn is_below(a: &Key, b: &Key) -> bool
-    ensures { result ≡ is_lt (key_cmp a.now b.now) }
-{
-    order(a, b).is_lt()
-}
-
 /// Whether a key may stand behind this one.
 fn may_follow(last: &Option<Key>, key: &Key) -> bool
     ensures { result ≡ follows last.now key.now }
 {
     match last {
         None => true,
-        Some(last) => is_below(last, key),
+        Some(last) => compare(last, key).is_lt(),
     }
 }
 

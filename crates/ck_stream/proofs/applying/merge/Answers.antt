@@ -10,11 +10,11 @@ loop-item-preserved c =
     let at = c.loop-item in
     let item = c.in-Some.item in
     let steps : into_iter_items at.item-iterator ≡ item ∷ into_iter_items c.next.new.self = c.in-Some.ensures.steps.0 in
-    let put = rw c.key_of.ensures at c.in_ok-rest.ensures.put in
-    let left = rw c.key_of.ensures at c.in_ok-rest.ensures.left in
+    let put = rw c.key.ensures at c.in_ok-rest.ensures.put in
+    let left = rw c.key.ensures at c.in_ok-rest.ensures.left in
     record {
       made = one_item at.out.items c.put_below.new.out.items c.put_at.new.out.items (into_iter_items at.item-iterator) (into_iter_items c.next.new.self) c.in_ok-rest.rest.now c.in_ok-rest-2.rest.now at.rest.now (merged (into_iter_items c.into_iter-item-iterator.result) c.args.changes.now) item
-        put left c.in_ok-rest-2.ensures.put c.in_ok-rest-2.ensures.left steps at.invariant.made;
+          put left c.in_ok-rest-2.ensures.put c.in_ok-rest-2.ensures.left steps at.invariant.made;
       len = let was = at.invariant.len in let gone = c.in-Some.ensures.steps.1 in let short = ap length steps in omega arith;
     }
 

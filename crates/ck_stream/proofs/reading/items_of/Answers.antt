@@ -23,7 +23,7 @@ returns-in-Err c =
 pub loop-preserved : goal.loop-preserved
 loop-preserved c =
     let pushed : c.push.new.self.items ≡ c.loop.items.items ++ c.in-Ok.item ∷ [] = c.in_ok-push-in-Ok.ensures.items in
-    rw (pushed, c.key_of.ensures)
+    rw (pushed, c.key.ensures)
     (goes_on c.loop.items.items (length c.args.bytes.now) c.loop.counter c.args.total c.args.full c.loop.last c.loop.rest.now c.in-Some.number c.in-Some.after.now c.in-Ok.item c.in-Ok.after.now
     (items_at (length c.args.bytes.now) c.args.total c.args.full None c.args.bytes.now) c.loop-test.true c.in-Some.ensures c.in-Some.number-test.1 c.in-Ok.ensures c.loop.invariant)
 
