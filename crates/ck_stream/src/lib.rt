@@ -21,3 +21,6 @@ pub use laws::none_begins_another;
 pub use reading::read_stream;
 pub use stream::{Changed, Full, Stream};
 pub use writing::{write_changed, write_full};
+
+#[cfg(test)]
+mod tests;
