@@ -1,9 +1,9 @@
 -- The records that are read are those that were written, and what was written is read again.
-use Rattle.std.proofs.Common.{◌≡◌, ◌≢◌, ℕ, zero, suc, ◌+◌, ◌-◌, ◌^◌, ◌<◌, ◌≤◌, Bool, true, false, ◌&&◌, cond, T, List, [], ◌∷◌, ◌++◌, length, Option, Some, None, Result, Ok, Err, refl, sym, ap, subst, ◌∙◌, append_assoc, length-append, arith}
+use Rattle.std.proofs.Common.{◌≡◌, ◌≢◌, ℕ, zero, suc, ◌-◌, ◌<◌, ◌≤◌, Bool, true, false, ◌&&◌, List, [], ◌∷◌, ◌++◌, length, Option, Some, None, Result, Ok, Err, refl, sym, ap, subst, ◌∙◌, append_assoc, length-append, arith}
 use Rattle.std.specs.declared.cmp.Ordering.{Ordering}
 use Rattle.std.specs.declared.cmp.Ordering.TheVariants.{Less, Equal, Greater}
 use Rattle.std.specs.Ordering.{is_lt}
-use Rattle.std.specs.List.{flat_map, AllByRecursion}
+use Rattle.std.specs.List.{AllByRecursion}
 use Rattle.std.specs.FinMap.{is_sorted}
 use Rattle.std.specs.FinMap.Entries.{below_all}
 use Rattle.std.proofs.lemmas.List.Concat.{flat_map-cons}
@@ -16,10 +16,9 @@ use Rattle.ck_stream.specs.declared.item.Item.{Item}
 use Rattle.ck_stream.specs.declared.item.Item.TheVariants.{Put, Removed}
 use Rattle.ck_stream.specs.declared.fault.Flaw.{Flaw}
 use Rattle.ck_stream.specs.declared.fault.StreamFault.{StreamFault}
-use Rattle.ck_stream.specs.declared.fault.StreamFault.TheVariants as fault
 use Rattle.ck_stream.specs.Spelling.{item_text, items_text}
 use Rattle.ck_stream.specs.Right.{key_of, change_of, changes, IsItem, IsPut}
-use Rattle.ck_stream.specs.Reading.{◌>>=◌, fault_at, located, follows, record_at, items_at}
+use Rattle.ck_stream.specs.Reading.{◌>>=◌, located, follows, record_at, items_at}
 use Rattle.ck_stream.proofs.FieldLaws.{IsBytes, IsBytes-rest, bind_ok, Takes, Takes-then}
 use Rattle.ck_stream.proofs.RecordLaws.{number_of, tag_of, record_takes, record_again}
 use Rattle.ck_stream.proofs.Loop.{one_more}

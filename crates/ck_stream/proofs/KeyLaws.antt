@@ -1,14 +1,12 @@
 -- A key that is read is the key that was written, and what was written is read again.
-use Rattle.std.proofs.Common.{◌≡◌, ℕ, ◌^◌, ◌<◌, ◌≤◌, Bool, true, false, ◌||◌, cond, ltb, List, [], ◌∷◌, ◌++◌, length, Result, Ok, Err, refl, sym, ap, subst, ◌∙◌, append_assoc, arith}
+use Rattle.std.proofs.Common.{◌≡◌, ℕ, ◌^◌, ◌<◌, false, ◌||◌, List, [], ◌∷◌, ◌++◌, length, Ok, refl, sym, ap, subst, ◌∙◌, append_assoc, arith}
 use Rattle.std.specs.Prelude.{nat_eq, nat_lt}
 use Rattle.std.specs.Int.{w32, to_be_bytes}
-use Rattle.std.proofs.lemmas.Bool.{ltb-false}
 use Rattle.std.proofs.lemmas.Bool.Decides.{nat_tests, Decides-ltb}
 use Rattle.ck_model.specs.declared.key.Key.{Key}
 use Rattle.ck_model.specs.declared.key.Key.TheVariants.{Name, Node, Block}
 use Rattle.ck_model.specs.Held.{IsKey, index_limit}
 use Rattle.ck_model.specs.Name.{IsFileName}
-use Rattle.ck_stream.specs.declared.fault.Flaw.{Flaw}
 use Rattle.ck_stream.specs.declared.fault.Flaw.TheVariants as flaw
 use Rattle.ck_stream.specs.declared.tag.Tag.{Tag}
 use Rattle.ck_stream.specs.declared.tag.Tag.TheVariants as tag

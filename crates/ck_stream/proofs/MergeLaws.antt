@@ -1,11 +1,10 @@
 -- What a merge makes: at each key what is put there, else what was there, unless that was removed.
-use Rattle.std.proofs.Common.{◌≡◌, ℕ, Bool, true, false, ◌&&◌, cond, T, Option, Some, None, List, [], ◌∷◌, ◌++◌, length, refl, sym, ap, subst, ◌∙◌, append_assoc, arith}
-use Rattle.std.specs.Prelude.{⊤}
+use Rattle.std.proofs.Common.{◌≡◌, Bool, true, false, ◌&&◌, cond, T, Option, Some, None, List, [], ◌∷◌, ◌++◌, refl, sym, ap, subst, ◌∙◌, append_assoc}
 use Rattle.std.specs.declared.cmp.Ordering.{Ordering}
 use Rattle.std.specs.declared.cmp.Ordering.TheVariants.{Less, Equal, Greater}
 use Rattle.std.specs.Ordering.{is_lt, is_eq, eq_by_cmp, ordering_reverse}
 use Rattle.std.specs.Option.{unwrap_or}
-use Rattle.std.specs.List.{flat_map, AllByRecursion}
+use Rattle.std.specs.List.{AllByRecursion}
 use Rattle.std.specs.FinMap.{find, is_sorted}
 use Rattle.std.specs.FinMap.Entries.{below_all}
 use Rattle.std.specs.FinMap as map
@@ -13,7 +12,7 @@ use Rattle.std.proofs.lemmas.List.Concat.{flat_map-cons}
 use Rattle.ck_model.specs.declared.key.Key.{Key}
 use Rattle.ck_model.specs.declared.cell.Payload.{Payload}
 use Rattle.ck_model.specs.Cells.{Content}
-use Rattle.ck_model.specs.Key.{key_cmp, key_cmp_total, key_cmp_exact}
+use Rattle.ck_model.specs.Key.{key_cmp, key_cmp_total}
 use Rattle.ck_model.specs.Streams.{set_to, set_all, applied}
 use Rattle.ck_model.proofs.CellsLemmas.{tied-is, entries_are}
 use Rattle.ck_stream.specs.declared.item.Item.{Item}

@@ -1,5 +1,5 @@
 -- The merge of changes into what there is, as a loop makes it.
-use Rattle.std.proofs.Common.{◌≡◌, List, [], ◌∷◌, ◌++◌, length, refl, sym, ap, subst, ◌∙◌, append_assoc, arith}
+use Rattle.std.proofs.Common.{◌≡◌, List, [], ◌∷◌, ◌++◌, length, refl, sym, ap, ◌∙◌, append_assoc, arith}
 use Rattle.ck_stream.specs.declared.item.Item.{Item}
 use Rattle.ck_stream.specs.Right.{key_of}
 use Rattle.ck_stream.specs.Merging.{puts, puts_below, from_key, at_key, behind_key, merged}

@@ -1,12 +1,11 @@
 -- A record that is read is the record that was written, and what was written is read again.
-use Rattle.std.proofs.Common.{◌≡◌, ℕ, ◌^◌, ◌<◌, ◌≤◌, Bool, true, false, cond, List, [], ◌∷◌, ◌++◌, length, Option, Result, Ok, Err, refl, sym, ap, subst, ◌∙◌, append_assoc, arith}
+use Rattle.std.proofs.Common.{◌≡◌, ℕ, ◌^◌, ◌<◌, ◌≤◌, Bool, true, false, cond, List, [], ◌∷◌, ◌++◌, length, Option, Result, Ok, refl, sym, ap, subst, ◌∙◌, append_assoc, arith}
 use Rattle.std.specs.Prelude.{nat_eq, nat_le, ⊤}
 use Rattle.std.specs.Int.{w32, w64, to_be_bytes}
 use Rattle.std.proofs.lemmas.Bool.{eqb-true}
 use Rattle.std.proofs.lemmas.List.{append-nil}
 use Rattle.ck_model.specs.declared.key.Key.{Key}
 use Rattle.ck_model.specs.declared.key.Key.TheVariants.{Name, Node, Block}
-use Rattle.ck_model.specs.declared.cell.Payload.{Payload}
 use Rattle.ck_model.specs.declared.cell.Payload.TheVariants.{To, File, Dir, Bytes}
 use Rattle.ck_model.specs.Held.{IsKey}
 use Rattle.ck_stream.specs.declared.item.Item.{Item}
@@ -16,11 +15,11 @@ use Rattle.ck_stream.specs.declared.fault.Flaw.TheVariants as flaw
 use Rattle.ck_stream.specs.declared.tag.Tag.{Tag}
 use Rattle.ck_stream.specs.declared.tag.Tag.TheVariants as tag
 use Rattle.ck_stream.specs.Spelling.{key_text, payload_text, item_text}
-use Rattle.ck_stream.specs.Right.{size_limit, block_len, Holds, key_of, IsItem, IsPut}
+use Rattle.ck_stream.specs.Right.{size_limit, block_len, key_of, IsItem, IsPut}
 use Rattle.ck_stream.specs.Reading.{◌>>=◌, number_at, run_at, tag_at, key_at, named_at, size_in, file_at, bytes_at, item_at, follows, item_in, record_at}
 use Rattle.ck_stream.proofs.Names.{Decides-le}
-use Rattle.ck_stream.proofs.FieldLaws.{IsBytes, IsBytes-rest, bind_ok, passed, met, done, ok_is, Takes, Takes-then, word_takes, word_again, long_takes, long_again, run_takes, run_again}
-use Rattle.ck_stream.proofs.KeyLaws.{kind_of, kind_for, KeyTaken, key_takes, name_again, node_again, block_again}
+use Rattle.ck_stream.proofs.FieldLaws.{IsBytes, bind_ok, met, done, ok_is, Takes, Takes-then, word_takes, word_again, long_takes, long_again, run_takes, run_again}
+use Rattle.ck_stream.proofs.KeyLaws.{kind_of, kind_for, key_takes, name_again, node_again, block_again}
 
 abbrev pub number_of : Tag → ℕ
 number_of tag.Name = 1

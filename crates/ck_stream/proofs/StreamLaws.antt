@@ -1,14 +1,12 @@
 -- The stream that is read is the one that was written, and what was written is read again.
-use Rattle.std.proofs.Common.{◌≡◌, ℕ, suc, ◌+◌, ◌-◌, ◌^◌, ◌<◌, ◌≤◌, Bool, true, false, cond, List, [], ◌∷◌, ◌++◌, length, take, drop, None, Result, Ok, Err, refl, sym, ap, subst, ◌∙◌, append_assoc, length-append, length-drop, arith}
+use Rattle.std.proofs.Common.{◌≡◌, ℕ, suc, ◌+◌, ◌-◌, ◌^◌, ◌<◌, ◌≤◌, true, List, [], ◌∷◌, ◌++◌, length, drop, None, Result, Ok, Err, refl, sym, ap, subst, ◌∙◌, append_assoc, length-append, length-drop, arith}
 use Rattle.std.specs.Prelude.{nat_eq, IfOk}
 use Rattle.std.specs.List.{AllByRecursion}
 use Rattle.std.specs.Cmp.Lexicographic.{pointwise, bytes_decides}
 use Rattle.std.specs.Int.{w64, to_be_bytes}
-use Rattle.std.specs.FinMap.{is_sorted}
 use Rattle.std.proofs.lemmas.List.{take_at, take-append-drop, append-nil, nil_from_length}
 use Rattle.sha2.specs.Sha256.{sha256}
 use Rattle.sha2.proofs.Facts256.{length-sha256}
-use Rattle.ck_model.specs.Key.{key_cmp}
 use Rattle.ck_stream.specs.declared.item.Item.{Item}
 use Rattle.ck_stream.specs.declared.fault.StreamFault.{StreamFault}
 use Rattle.ck_stream.specs.declared.fault.StreamFault.TheVariants as fault
@@ -16,10 +14,10 @@ use Rattle.ck_stream.specs.declared.tag.Header.{Header}
 use Rattle.ck_stream.specs.declared.tag.Header.TheVariants as header
 use Rattle.ck_stream.specs.declared.stream.Stream.{Stream}
 use Rattle.ck_stream.specs.declared.stream.Stream.TheVariants as stream
-use Rattle.ck_stream.specs.Spelling.{header_text, items_text, items_of, end_text, body, text, StandsIn}
+use Rattle.ck_stream.specs.Spelling.{header_text, items_text, end_text, body, text, StandsIn}
 use Rattle.ck_stream.specs.Right.{IsPut, AreItems, IsStream}
 use Rattle.ck_stream.specs.Reading.{◌>>=◌, located, header_at, items_at, is_full, made, end_at, signed, digest_in, stream_at, Gives}
-use Rattle.ck_stream.proofs.FieldLaws.{IsBytes, IsBytes-drop, bind_ok, met, Takes, Takes-then}
+use Rattle.ck_stream.proofs.FieldLaws.{IsBytes, IsBytes-drop, bind_ok, met, Takes-then}
 use Rattle.ck_stream.proofs.ItemsLaws.{located_ok, got, items_take, few_items, items_again}
 use Rattle.ck_stream.proofs.HeaderLaws.{IsHeader, header_takes, header_again, end_takes, end_again}
 

@@ -1,5 +1,5 @@
 -- How changes are merged into what there is, both in the order of the keys.
-use Rattle.std.specs.Prelude.{ℕ, Bool, List, [], ◌∷◌, ◌++◌, if◌then◌else◌}
+use Rattle.std.specs.Prelude.{Bool, List, [], ◌∷◌, ◌++◌, if◌then◌else◌}
 use Rattle.std.specs.List.{flat_map}
 use Rattle.std.specs.Ordering.{is_lt, eq_by_cmp}
 use Rattle.ck_model.specs.declared.key.Key.{Key}

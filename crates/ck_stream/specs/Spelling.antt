@@ -9,8 +9,6 @@ use Rattle.ck_model.specs.declared.cell.Payload.{Payload}
 use Rattle.ck_model.specs.declared.cell.Payload.TheVariants.{To, File, Dir, Bytes}
 use Rattle.ck_stream.specs.declared.item.Item.{Item}
 use Rattle.ck_stream.specs.declared.item.Item.TheVariants.{Put, Removed}
-use Rattle.ck_stream.specs.declared.stream.Full.{Full}
-use Rattle.ck_stream.specs.declared.stream.Changed.{Changed}
 use Rattle.ck_stream.specs.declared.stream.Stream.{Stream}
 use Rattle.ck_stream.specs.declared.stream.Stream.TheVariants as stream
 

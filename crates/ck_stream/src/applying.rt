@@ -57,11 +57,11 @@ fn put_below<'a>(
     ensures left { IfOk result (λ rest. rest.now ≡ from_key key.now changes.now) }
 {
     let mut rest = changes;
-    while let [first, after @ ..] = rest {
-        if !is_below(key, first) {
+    while let [change, after @ ..] = rest {
+        if !is_below(key, change) {
             return Ok(rest);
         }
-        put(out, first)?;
+        put(out, change)?;
         rest = after;
     }
     Ok(rest)

@@ -1,5 +1,4 @@
-use Rattle.std.proofs.Common.{◌≡◌, ℕ, ◌-◌, ◌++◌, ◌∷◌, [], List, length, None}
-use Rattle.ck_stream.specs.declared.item.Item.{Item}
+use Rattle.std.proofs.Common.{◌≡◌, ◌++◌, ◌∷◌, [], length, None}
 use Rattle.ck_stream.specs.Reading.{items_at}
 use Rattle.ck_stream.proofs.Loop.{at_empty, at_end, goes_on, stops_as, is_out}
 use Rattle.ck_stream.proofs.reading.items_of.Goals as goal

@@ -1,4 +1,4 @@
-use Rattle.std.proofs.Common.{sym, subst, arith}
+use Rattle.std.proofs.Common.{subst, arith}
 use Rattle.ck_stream.specs.Reading.{Gives}
 use Rattle.ck_stream.proofs.StreamLaws.{is_right, is_spelled, stream_again}
 use Rattle.ck_stream.proofs.reading.read_stream.Goals as goal
