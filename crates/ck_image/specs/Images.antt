@@ -86,13 +86,16 @@ later full changed =
     record { id = changed.to; items = items_with (applied (contents full.items) (changes changed.items)) }
 
 -- what changed must be from that very checkpoint on
-abbrev pub applied_to : Full → Changed × ℕ → Result (Full × ℕ) Refusal
-applied_to full read =
-    if nat_eq full.id read.0.from then Ok (later full read.0, read.1)
-    else Err (refusal.WrongBase full.id read.0.from)
+unfoldable pub applied_once : Full → Changed → Result Full Refusal
+applied_once full changed =
+    if nat_eq full.id changed.from then Ok (later full changed)
+    else Err (refusal.WrongBase full.id changed.from)
 
 unfoldable pub next_in : List ℕ → Full → ℕ → Result (Full × ℕ) Refusal
-next_in bytes full at = changed_in bytes at >>= λ read. applied_to full read
+next_in bytes full at = do
+  read ← changed_in bytes at
+  new ← applied_once full read.0
+  Ok (new, read.1)
 
 -- the changed streams up to the input's end, of which there are at most so many: each has bytes
 unfoldable pub changes_in : ℕ → List ℕ → Full → ℕ → Result Full Refusal

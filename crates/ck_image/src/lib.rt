@@ -4,3 +4,4 @@
 mod command;
 mod images;
 mod refusal;
+mod texts;
