@@ -5,3 +5,6 @@ mod command;
 mod images;
 mod refusal;
 mod texts;
+mod top;
+
+pub use top::image_top;
