@@ -70,12 +70,7 @@ fn print<K: Sink>(alloc: Global, command: Command, bytes: &[u8], out: &mut K) ->
     }
 }
 
-fn run<S: Source, K: Sink>(
-    alloc: Global,
-    command: Command,
-    source: &mut S,
-    out: &mut K,
-) -> Status
+fn run<S: Source, K: Sink>(alloc: Global, command: Command, source: &mut S, out: &mut K) -> Status
     ensures { Ends command (S.means source.old) (S.means source.new) (K.means out.old) (K.means out.new) result }
 {
     match read(alloc, source, command) {
