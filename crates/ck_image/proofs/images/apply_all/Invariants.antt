@@ -1,0 +1,11 @@
+use Rattle.std.proofs.Common.{◌≡◌, ◌-◌, ◌≤◌, length}
+use Rattle.ck_stream.specs.Right.{IsFull}
+use Rattle.ck_image.specs.Images.{changes_in}
+use Rattle.ck_image.proofs.images.apply_all.Given as goal
+
+abbrev pub invariant-loop : goal.invariant-loop
+invariant-loop l = record {
+  made : changes_in (length l.bytes - l.counter) l.bytes l.full l.at ≡ changes_in (length l.bytes) l.bytes l.initial.full l.initial.at;
+  right : IsFull l.full;
+  within : l.at ≤ length l.bytes;
+}

@@ -1,0 +1,158 @@
+ghost use Rattle.std.specs.Prelude.{◌≡◌, ◌++◌, length, OnOk, IfOk};
+ghost use Rattle.ck_stream.specs.Spelling.{items_of};
+ghost use Rattle.ck_image.specs.declared.command.Command.TheVariants.{Verify, Apply};
+ghost use Rattle.ck_image.specs.Images.{Answers};
+ghost use Rattle.ck_image.specs.Texts.{number_words, digest_words, kind_words, stream_line, fault_words, refusal_words, made_of, printed};
+
+use crate::command::Command;
+use crate::images::{applied, whole};
+use crate::refusal::Refusal;
+use ck_model::NoMemory;
+use ck_stream::{Stream, StreamFault, write_full};
+use ck_text::{put_decimal, put_hex};
+use std::alloc::Global;
+
+/// An input may have so many bytes.
+pub const INPUT_LIMIT: usize = 1_073_741_824;
+
+fn put(out: &mut Vec<u8>, text: &[u8]) -> Result<(), NoMemory>
+    ensures { OnOk result (out.new.items ≡ out.old.items ++ text.now) }
+{
+    out.extend_from_slice(text)?;
+    Ok(())
+}
+
+fn put_number(out: &mut Vec<u8>, number: u64) -> Result<(), NoMemory>
+    ensures { OnOk result (out.new.items ≡ out.old.items ++ number_words number) }
+{
+    put(out, b" ")?;
+    put_decimal(out, number)
+}
+
+fn put_digest(out: &mut Vec<u8>, digest: &[u8; 32]) -> Result<(), NoMemory>
+    ensures { OnOk result (out.new.items ≡ out.old.items ++ digest_words digest.now) }
+{
+    put(out, b" ")?;
+    put_hex(out, digest)
+}
+
+fn put_kind(out: &mut Vec<u8>, stream: &Stream) -> Result<(), NoMemory>
+    ensures { OnOk result (out.new.items ≡ out.old.items ++ kind_words stream.now) }
+{
+    match stream {
+        Stream::Full(full) => {
+            put(out, b"full")?;
+            put_number(out, u64::from(full.id))
+        }
+        Stream::Changed(changed) => {
+            put(out, b"changed")?;
+            put_number(out, u64::from(changed.from))?;
+            put_number(out, u64::from(changed.to))
+        }
+    }
+}
+
+fn count(stream: &Stream) -> usize
+    ensures { result ≡ length (items_of stream.now) }
+{
+    match stream {
+        Stream::Full(full) => full.items.items().len(),
+        Stream::Changed(changed) => changed.items.items().len(),
+    }
+}
+
+fn put_line(out: &mut Vec<u8>, stream: &Stream) -> Result<(), NoMemory>
+    ensures { OnOk result (out.new.items ≡ out.old.items ++ stream_line stream.now) }
+{
+    put_kind(out, stream)?;
+    put(out, b" records")?;
+    put_number(out, count(stream) as u64)?;
+    put(out, b"\n")
+}
+
+fn put_fault(out: &mut Vec<u8>, fault: &StreamFault) -> Result<(), NoMemory>
+    ensures { OnOk result (out.new.items ≡ out.old.items ++ fault_words fault.now) }
+{
+    match fault {
+        StreamFault::NotStream(place) => {
+            put(out, b"NotStream")?;
+            put_number(out, *place)
+        }
+        StreamFault::Truncated(total) => {
+            put(out, b"Truncated")?;
+            put_number(out, *total)
+        }
+        StreamFault::Digest { kept, found } => {
+            put(out, b"Digest")?;
+            put_digest(out, kept)?;
+            put_digest(out, found)
+        }
+        StreamFault::NoMemory => Ok(()),
+    }
+}
+
+fn put_refusal(out: &mut Vec<u8>, refusal: &Refusal) -> Result<(), NoMemory>
+    ensures { OnOk result (out.new.items ≡ out.old.items ++ refusal_words refusal.now) }
+{
+    match refusal {
+        Refusal::Stream(fault) => put_fault(out, fault),
+        Refusal::WrongBase { has, wants } => {
+            put(out, b"WrongBase")?;
+            put_number(out, u64::from(*has))?;
+            put_number(out, u64::from(*wants))
+        }
+        Refusal::TooLong => put(out, b"TooLong 1073741824"),
+        Refusal::NoMemory => Ok(()),
+    }
+}
+
+/// The words of a refusal.
+pub fn words_of(alloc: Global, refusal: &Refusal) -> Result<Vec<u8>, NoMemory>
+    ensures { IfOk result (λ words. words.items ≡ refusal_words refusal.now) }
+{
+    let mut out = Vec::new(alloc);
+    put_refusal(&mut out, refusal)?;
+    Ok(out)
+}
+
+fn line_of(alloc: Global, stream: &Stream) -> Result<Vec<u8>, NoMemory>
+    ensures { IfOk result (λ line. line.items ≡ stream_line stream.now) }
+{
+    let mut out = Vec::new(alloc);
+    put_line(&mut out, stream)?;
+    Ok(out)
+}
+
+fn verified(alloc: Global, bytes: &[u8]) -> Result<Vec<u8>, Refusal>
+    ensures { Answers (λ text. text.items) result (made_of Verify bytes.now) }
+{
+    let stream = whole(alloc, bytes)?;
+    match line_of(alloc, &stream) {
+        Ok(line) => Ok(line),
+        Err(_) => Err(Refusal::NoMemory),
+    }
+}
+
+fn made(alloc: Global, bytes: &[u8]) -> Result<Vec<u8>, Refusal>
+    ensures { Answers (λ text. text.items) result (made_of Apply bytes.now) }
+{
+    let full = applied(alloc, bytes)?;
+    match write_full(alloc, &full) {
+        Ok(text) => Ok(text),
+        Err(_) => Err(Refusal::NoMemory),
+    }
+}
+
+/// What a command prints for its input.
+#[tactic(auto, unfolding(crate::specs::Texts::printed))]
+pub fn print_of(alloc: Global, command: Command, bytes: &[u8]) -> Result<Vec<u8>, Refusal>
+    ensures { Answers (λ text. text.items) result (printed command bytes.now) }
+{
+    if bytes.len() > INPUT_LIMIT {
+        return Err(Refusal::TooLong);
+    }
+    match command {
+        Command::Verify => verified(alloc, bytes),
+        Command::Apply => made(alloc, bytes),
+    }
+}

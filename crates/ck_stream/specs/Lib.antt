@@ -1,0 +1,5 @@
+pub mod Spelling
+pub mod Right
+pub mod Reading
+pub mod Merging
+pub mod Laws

@@ -1,0 +1,26 @@
+//! Backup streams: what a checkpoint holds, or what changed between two, as bytes.
+#![tactic(auto)]
+
+mod applying;
+mod fault;
+mod fields;
+mod header;
+mod item;
+mod laws;
+mod order;
+mod reading;
+mod records;
+mod stream;
+mod tag;
+mod writing;
+
+pub use applying::apply;
+pub use fault::{ApplyFault, StreamFault};
+pub use item::{Item, Items};
+pub use laws::none_begins_another;
+pub use reading::read_stream;
+pub use stream::{Changed, Full, Stream};
+pub use writing::{write_changed, write_full};
+
+#[cfg(test)]
+mod tests;
