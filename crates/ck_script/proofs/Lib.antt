@@ -1,4 +1,4 @@
 pub mod NameLemmas
+pub mod PathLemmas
 pub mod LinesLemmas
 pub mod ReadingLemmas
-pub mod OrderLemmas

@@ -37,10 +37,3 @@ name_read word found some value = step (is_name word) (Decides-name word) found 
     step true d (Some name) some value = ap Some value
     step false d None some value = refl
     step false d (Some name) some value = let wrong : false ≡ true = d.1 (some.0 refl) in cc
-
-pub file_name_found : (word name : List ℕ) → Some name ≡ (if is_file_name word then Some word else None) → IsFileName name
-file_name_found word name e = step (is_file_name word) (Decides-file_name word) e
-  where
-    step : (b : Bool) → Decides b (IsFileName word) → Some name ≡ cond b (Some word) None → IsFileName name
-    step true d e = let same : name ≡ word = cc in subst IsFileName (sym same) (d.0 refl)
-    step false d e = cc

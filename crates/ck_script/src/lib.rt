@@ -1,8 +1,13 @@
 //! Scripts: their lines, and the calls that the lines stand for.
 #![tactic(auto)]
 
+mod built;
 mod calls;
+mod checkpoints;
 mod fault;
+mod files;
+mod form;
+mod forms;
 mod line;
 mod parser;
 mod parts;
@@ -10,9 +15,11 @@ mod script;
 mod tally;
 #[cfg(test)]
 mod tests;
+mod turns;
 mod words;
 
 pub use fault::ParseFault;
 pub use line::{Line, Lines};
 pub use parser::parse;
 pub use script::Script;
+pub use turns::Turns;
