@@ -7,7 +7,7 @@ use Rattle.std.proofs.lemmas.Slice.Eq.{bytes_eq-Decides}
 use Rattle.ck_model.specs.Name.{IsName, IsNameByte, IsFileName}
 use Rattle.ck_script.specs.Grammar.{is_name, is_file_name, is_printable}
 
-Decides-nat_le : (a b : ℕ) → Decides (nat_le a b) (a ≤ b)
+pub Decides-nat_le : (a b : ℕ) → Decides (nat_le a b) (a ≤ b)
 Decides-nat_le a b = (λ e. grind (arith, nat_tests, e), λ h. grind (arith, nat_tests, h))
 
 Decides-name_byte : (byte : ℕ) → Decides (is_printable byte && not (nat_eq byte 47)) (IsNameByte byte)

@@ -1,5 +1,5 @@
 -- A path is read from a word exactly where the word is its text.
-use Rattle.std.proofs.Common.{◌≡◌, ◌≢◌, ℕ, zero, suc, ◌+◌, ◌≤◌, ◌<◌, ◌&&◌, Bool, true, false, cond, not, List, [], ◌∷◌, ◌++◌, length, drop, Option, Some, None, IfSome, IfNone, All, nat_eq, nat_le, codes, refl, sym, ap, subst, ◌∙◌, inl, inr, arith}
+use Rattle.std.proofs.Common.{◌≡◌, ◌≢◌, ℕ, zero, suc, ◌+◌, ◌≤◌, ◌<◌, ◌&&◌, Bool, true, false, cond, not, List, [], ◌∷◌, ◌++◌, length, drop, Option, Some, None, IfSome, IfNone, IfOk, Result, Ok, Err, All, nat_eq, nat_le, codes, refl, sym, ap, subst, ◌∙◌, inl, inr, lit≤, arith}
 use Rattle.std.proofs.lemmas.List.{append-nil}
 use Rattle.std.specs.Prelude.{slice_index}
 use Rattle.std.specs.Bool.{Decides}
@@ -79,23 +79,48 @@ path_found word names e = root (is_text word (codes "/")) (bytes_eq-Decides word
     some : (b : Bool) → Decides b (IsNamesWord word) → cond b (Some (parts_of (drop 1 word))) None ≡ Some names → (path_text names ≡ word) × IsPath names
     some true d e = let same : parts_of (drop 1 word) ≡ names = cc in subst (λ names. (path_text names ≡ word) × IsPath names) same (names_word word (d.0 refl))
     some false d e = cc
+
     root : (b : Bool) → Decides b (word ≡ codes "/") → cond b (Some []) (names_of word) ≡ Some names → (path_text names ≡ word) × IsPath names
     root true d e =
         let none : [] ≡ names = cc in
-        let short : length (path_text []) ≤ 1024 = omega arith in
-        subst (λ names. (path_text names ≡ word) × IsPath names) none (sym (d.0 refl), record { each = λ k h. absurd (omega arith); short = short })
+        subst (λ names. (path_text names ≡ word) × IsPath names) none (sym (d.0 refl), record { each = λ k d h. absurd (omega (arith, h)); short = lit≤ tt })
     root false d e = some _ (Decides-names_word word) e
 
 -- the text of a path has the path
 path_there : (word : List ℕ) (names : List (List ℕ)) → path_text names ≡ word → IsPath names → path_of word ≡ Some names
 path_there word [] e h = ap path_of (sym e)
-path_there word (name ∷ names) e h = ?
+path_there word (name ∷ names) e h =
+    let file = All-head IsFileName name names h.each in
+    let rest : List ℕ = name ++ joined names in
+    let parts : parts_of rest ≡ name ∷ names = parts-joined name names file (All-tail IsFileName name names h.each) in
+    let is : IsNamesWord (47 ∷ rest) = record { slash = refl; short = h.short; each = subst (All IsFileName) (sym parts) h.each } in
+    let longer : (47 ∷ rest) ≢ codes "/" = λ same. root_is_short name (joined names) file same in
+    subst (λ word. path_of word ≡ Some (name ∷ names)) e (
+    there (is_text (47 ∷ rest) (codes "/")) (bytes_eq-Decides (47 ∷ rest) (codes "/")) longer (names_of (47 ∷ rest))
+    (some (is_slash (slice_index (47 ∷ rest) 0) && nat_le (length (47 ∷ rest)) 1024 && list_all is_file_name (parts_of rest)) (Decides-names_word (47 ∷ rest)) is (parts_of rest) ∙ ap Some parts))
+  where
+    root_is_short : (name rest : List ℕ) → IsFileName name → (47 ∷ name ++ rest) ≡ codes "/" → ⊥
+    root_is_short [] rest file same = let none : 1 ≤ 0 = file.name.some in omega (arith, none)
+    root_is_short (byte ∷ name) rest file same = cc
+
+    there : (b : Bool) {word : List ℕ} → Decides b (word ≡ codes "/") → word ≢ codes "/" → (o : Option (List (List ℕ))) → o ≡ Some (name ∷ names) → cond b (Some []) o ≡ Some (name ∷ names)
+    there true d other o e = absurd (other (d.0 refl))
+    there false d other o e = e
+
+    some : (b : Bool) → Decides b (IsNamesWord (47 ∷ name ++ joined names)) → IsNamesWord (47 ∷ name ++ joined names) → (parts : List (List ℕ)) → cond b (Some parts) None ≡ Some parts
+    some true d is parts = refl
+    some false d is parts = let wrong : false ≡ true = d.1 is in cc
 
 -- what is read of a word is its path
 pub path_read : (word : List ℕ) (found : Option (List (List ℕ))) → IfSome found (λ path. path_text path ≡ word) → IfSome found IsPath → IfNone found ((names : List (List ℕ)) → IsPath names → path_text names ≢ word) →
     found ≡ path_of word
 path_read word (Some path) text is none = sym (path_there word path text is)
 path_read word None text is none = elim (path_of word) as (λ o. path_of word ≡ o → None ≡ o) [
-      | None ↦ λ e. refl
-      | Some names ↦ λ e. let found = path_found word names e in absurd (none names found.1 found.0)
-    ] refl
+  | None ↦ λ e. refl
+  | Some names ↦ λ e. let found = path_found word names e in absurd (none names found.1 found.0)
+] refl
+
+pub path_read_ok : {E : Type 0} (word : List ℕ) (found : Result (Option (List (List ℕ))) E) → IfOk found (λ found. IfSome found (λ path. path_text path ≡ word)) → IfOk found (λ found. IfSome found IsPath) →
+    IfOk found (λ found. IfNone found ((names : List (List ℕ)) → IsPath names → path_text names ≢ word)) → IfOk found (λ path. path ≡ path_of word)
+path_read_ok word (Ok found) text is none = path_read word found text is none
+path_read_ok word (Err error) text is none = tt

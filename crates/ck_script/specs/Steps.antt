@@ -1,11 +1,13 @@
 -- How a script is read line by line.
-use Rattle.std.specs.Prelude.{◌≡◌, ◌<◌, ℕ, List, Option, Some, None, Result, Err, IsTrue, length, count_by, nat_lt, if◌then◌else◌, slice_get, slice_range, drop}
+use Rattle.std.specs.Prelude.{◌≡◌, ◌<◌, ◌≤◌, ℕ, List, Option, Some, None, Result, Err, IsTrue, length, nat_lt, if◌then◌else◌, slice_index, slice_range, drop}
 use Rattle.std.specs.List.{sum_by}
 use Rattle.std.specs.Str.Lines.{strip_carriage_return}
 use Rattle.ck_script.specs.declared.fault.ParseFault.{ParseFault}
 use Rattle.ck_script.specs.declared.fault.ParseFault.TheVariants.{BadLine, NoMemory}
+use Rattle.ck_script.specs.declared.form.Form.{Form}
+use Rattle.ck_script.specs.declared.form.Form.TheVariants.{Called, Turned}
 use Rattle.ck_script.specs.declared.line.Line.{Line}
-use Rattle.ck_script.specs.Limits.{are_within_limits, asked_by, is_stream}
+use Rattle.ck_script.specs.Limits.{are_within_limits, asked_by, streams_by}
 use Rattle.ck_script.specs.Numbered.{numbers_in}
 use Rattle.ck_script.specs.Reading.{Parsed}
 
@@ -26,6 +28,12 @@ line_at text start end = if nat_lt end (length text) then strip_carriage_return 
 -- these are the sums over the lines: the bytes that they ask for, their streams, and how many calls each actor has
 pub record IsTally (lines : List Line) (asked streams : ℕ) (counts : List ℕ) : Type 0 where
   pub asked_is : asked ≡ sum_by (λ line. asked_by line.call) lines
-  pub streams_is : streams ≡ count_by (λ line. is_stream line.call) lines
-  pub counts_is : (actor : ℕ) → actor < 65 → slice_get counts actor ≡ Some (length (numbers_in lines actor))
+  pub streams_is : streams ≡ sum_by (λ line. streams_by line.call) lines
+  pub whole : length counts ≡ 65
+  pub counts_is : (actor : ℕ) → actor < 65 → slice_index counts actor ≡ length (numbers_in lines actor)
   pub within : IsTrue (are_within_limits lines)
+
+-- a call's actor has a number from 1 to 64
+abbrev pub HasActor : Form → Type 0
+HasActor (Called actor call) = (1 ≤ actor) × (actor ≤ 64)
+HasActor (Turned turns) = Unit {0}

@@ -1,7 +1,9 @@
 ghost use Rattle.std.specs.Prelude.{◌≡◌, ◌∷◌, IfOk, map as list_map};
 ghost use Rattle.ck_script.specs.Grammar.{path_alone as lone_path, name_alone as lone_name, letter_alone as lone_letter, change_of as change_in, look_of as look_in, naming_of as naming_in, mounted_of as mounted_in, call_of as call_in};
 
-use crate::checkpoints::{backup_of, cls_of, cread_of, create_of, mount_of, nodata_of, removable_of};
+use crate::checkpoints::{
+    backup_of, cls_of, cread_of, create_of, mount_of, nodata_of, removable_of,
+};
 use crate::files::{fill_of, mv_of, read_of, trunc_of, write_of};
 use crate::parts::{checkpoint_name, is_text, letter_of, path_of};
 use ck_model::{Call, NameBytes, NoMemory, Path};

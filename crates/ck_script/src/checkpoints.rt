@@ -3,7 +3,9 @@ ghost use Rattle.ck_script.specs.Grammar.{create_of as create_in, nodata_of as n
 ghost use Rattle.std.specs.Option.{option_map};
 ghost use Rattle.ck_model.specs.declared.call.Call.TheVariants as calls;
 
-use crate::parts::{checkpoint_name, is_text, letter_of, path_of, place_of, read_length, switch_of};
+use crate::parts::{
+    checkpoint_name, is_text, letter_of, path_of, place_of, read_length, switch_of,
+};
 use ck_model::{Call, NoMemory};
 use std::alloc::Global;
 

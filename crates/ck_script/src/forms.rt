@@ -1,7 +1,8 @@
-ghost use Rattle.std.specs.Prelude.{◌≡◌, ◌∷◌, Some, None, IfOk, if◌then◌else◌, map as list_map};
+ghost use Rattle.std.specs.Prelude.{◌≡◌, ◌∷◌, Some, None, IfOk, IfSome, if◌then◌else◌, map as list_map};
 ghost use Rattle.std.specs.Option.{option_and_then, option_map};
 ghost use Rattle.ck_script.specs.Built.{is_built as built};
 ghost use Rattle.ck_script.specs.Grammar.{actor_of as actor_in, call_of as call_in, turn_of as turn_in, turns_of as turns_in, form_of as form_for};
+ghost use Rattle.ck_script.specs.Steps.{HasActor};
 ghost use Rattle.ck_script.specs.declared.form.Form.TheVariants as forms;
 
 use crate::Turns;
@@ -15,7 +16,11 @@ use std::alloc::Global;
 fn turn_of(word: &[u8]) -> Option<u32>
     ensures { result ≡ turn_in word.now }
 {
-    if is_text(word, b"b") { Some(0) } else { actor_of(word) }
+    if is_text(word, b"b") {
+        Some(0)
+    } else {
+        actor_of(word)
+    }
 }
 
 fn turns_of(alloc: Global, words: &[&[u8]]) -> Result<Option<Turns>, NoMemory>
@@ -65,7 +70,8 @@ fn form_of(alloc: Global, words: &[&[u8]]) -> Result<Option<Form>, NoMemory>
 
 /// The same, where it is built.
 pub fn built_form(alloc: Global, words: &[&[u8]]) -> Result<Option<Form>, NoMemory>
-    ensures { IfOk result (λ form. form ≡ option_and_then (λ form. if built form then Some form else None) (form_for (list_map (λ word. word.now) words.now))) }
+    ensures form { IfOk result (λ form. form ≡ option_and_then (λ form. if built form then Some form else None) (form_for (list_map (λ word. word.now) words.now))) }
+    ensures actor { IfOk result (λ form. IfSome form HasActor) }
 {
     match form_of(alloc, words)? {
         Some(form) if is_built(&form) => Ok(Some(form)),

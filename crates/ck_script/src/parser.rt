@@ -1,10 +1,11 @@
-ghost use Rattle.std.specs.Prelude.{◌≡◌, false, ◌+◌, ◌≤◌, ◌==◌, Some, Ok, IfOk, IfErr, OnOk, IsTrue, length, take, drop, count_by, nat_eq};
+ghost use Rattle.std.specs.Prelude.{◌≡◌, false, ◌+◌, ◌≤◌, ◌==◌, Some, Ok, IfOk, IfErr, OnOk, IsTrue, length, take, drop, count_by, nat_eq, map as list_map};
 ghost use Rattle.std.specs.List.{position_or_len, AllByRecursion};
 ghost use Rattle.std.specs.Option.{option_map_or};
 ghost use Rattle.std.specs.Str.Lines.{lines as lines_of, strip_carriage_return};
+ghost use Rattle.ck_text.specs.Words.{words_of};
 ghost use Rattle.ck_script.specs.Built.{is_built};
 ghost use Rattle.ck_script.specs.declared.form.Form.TheVariants as forms;
-ghost use Rattle.ck_script.specs.Reading.{long_line as long_line_of, nothing_read, with_line, read_lines, read_script};
+ghost use Rattle.ck_script.specs.Reading.{is_skipped as skips, long_line as long_line_of, nothing_read, with_line, read_lines, read_script};
 ghost use Rattle.ck_script.specs.Steps.{IsFaultOf, IsRefusal, line_at};
 
 use crate::forms::built_form;
@@ -16,12 +17,19 @@ use std::alloc::Global;
 /// The longest script, in bytes.
 const SCRIPT_LIMIT: usize = 16_777_216;
 
+fn is_skipped(line: &[u8], words: &[&[u8]]) -> bool
+    requires { list_map (λ word. word.now) words.now ≡ words_of line.now }
+    ensures { result ≡ skips line.now }
+{
+    words.is_empty() || (!line.is_empty() && line[0] == b'#')
+}
+
 fn read_line(alloc: Global, tally: &mut Tally, number: u32, line: &[u8]) -> Result<(), ParseFault>
     ensures ok { OnOk result (with_line number tally.old line.now ≡ Some tally.new) }
     ensures err { IfErr result (IsRefusal number (with_line number tally.old line.now)) }
 {
     let words = words_in(alloc, line)?;
-    if words.is_empty() || (!line.is_empty() && line[0] == b'#') {
+    if is_skipped(line, &words) {
         return Ok(());
     }
     match built_form(alloc, &words)? {

@@ -1,8 +1,8 @@
 ghost use Rattle.std.specs.Prelude.{◌≡◌, ◌+◌, ◌<◌, ◌≤◌, ◌++◌, [], ◌∷◌, Some, OnOk, IfErr, IsTrue, length};
-ghost use Rattle.ck_script.specs.Limits.{asked_by as bytes_asked_by, is_stream as gives_stream, are_within_limits};
+ghost use Rattle.ck_script.specs.Limits.{asked_by as bytes_asked_by, streams_by as streams_given_by, are_within_limits};
 ghost use Rattle.ck_script.specs.Numbered.{numbers_in};
 ghost use Rattle.ck_script.specs.Reading.{nothing_read, line_of, with_call, with_form};
-ghost use Rattle.ck_script.specs.Steps.{IsRefusal};
+ghost use Rattle.ck_script.specs.Steps.{HasActor, IsRefusal};
 ghost use Rattle.ck_script.specs.declared.fault.ParseFault.TheVariants as faults;
 
 use crate::form::Form;
@@ -17,7 +17,7 @@ const CALL_LIMIT: usize = 65_536;
 /// The most bytes that its reads may ask for together.
 const LENGTH_LIMIT: u64 = 268_435_456;
 
-/// The most of its calls that may give streams.
+/// The most streams that its calls may give.
 const STREAM_LIMIT: u32 = 16;
 
 /// Actors have numbers below this one.
@@ -30,7 +30,7 @@ pub struct Tally {
     turns: Vec<u32>,
     /// How many bytes the calls ask for together.
     asked: u64,
-    /// How many calls give streams.
+    /// How many streams the calls give.
     streams: u32,
     /// How many calls each actor has.
     counts: [u32; ACTORS],
@@ -56,10 +56,13 @@ fn asked_by(call: &Call) -> u32
     }
 }
 
-fn is_stream(call: &Call) -> bool
-    ensures { result ≡ gives_stream call.now }
+fn streams_by(call: &Call) -> u32
+    ensures { result ≡ streams_given_by call.now }
 {
-    matches!(call, Call::Backup(_, _) | Call::Full(_))
+    match call {
+        Call::Backup(_, _) | Call::Full(_) => 1,
+        _ => 0,
+    }
 }
 
 impl Tally {
@@ -93,7 +96,7 @@ impl Tally {
     {
         self.lines.len() < CALL_LIMIT
             && self.asked + u64::from(asked_by(&line.call)) <= LENGTH_LIMIT
-            && self.streams + u32::from(is_stream(&line.call)) <= STREAM_LIMIT
+            && self.streams + streams_by(&line.call) <= STREAM_LIMIT
     }
 
     fn push(&mut self, line: Line) -> Result<(), ParseFault>
@@ -104,7 +107,7 @@ impl Tally {
     {
         let actor = line.actor as usize;
         let asked = u64::from(asked_by(&line.call));
-        let streams = u32::from(is_stream(&line.call));
+        let streams = streams_by(&line.call);
         self.lines.push(line)?;
         self.asked += asked;
         self.streams += streams;
@@ -133,6 +136,7 @@ impl Tally {
 
     /// Takes in what the line with this number stands for, unless a limit is passed with it.
     pub fn add(&mut self, number: u32, form: Form) -> Result<(), ParseFault>
+        requires { HasActor form }
         ensures ok { OnOk result (with_form number self.old form ≡ Some self.new) }
         ensures err { IfErr result (IsRefusal number (with_form number self.old form)) }
     {
