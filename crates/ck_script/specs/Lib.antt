@@ -4,3 +4,4 @@ pub mod Built
 pub mod Limits
 pub mod Reading
 pub mod Steps
+pub mod Generator

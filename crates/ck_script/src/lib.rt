@@ -4,10 +4,12 @@
 mod built;
 mod calls;
 mod checkpoints;
+mod draws;
 mod fault;
 mod files;
 mod form;
 mod forms;
+mod generator;
 mod line;
 mod parser;
 mod parts;
@@ -19,6 +21,7 @@ mod turns;
 mod words;
 
 pub use fault::ParseFault;
+pub use generator::generate;
 pub use line::{Line, Lines};
 pub use parser::parse;
 pub use script::Script;
