@@ -59,7 +59,7 @@ fn form_by(alloc: Global, first: &[u8], words: &[&[u8]]) -> Result<Option<Form>,
 }
 
 /// What a line with these words stands for.
-fn form_of(alloc: Global, words: &[&[u8]]) -> Result<Option<Form>, NoMemory>
+pub fn form_of(alloc: Global, words: &[&[u8]]) -> Result<Option<Form>, NoMemory>
     ensures { IfOk result (λ form. form ≡ form_for (list_map (λ word. word.now) words.now)) }
 {
     match words {

@@ -4,22 +4,223 @@ use crate::forms::form_of;
 use crate::tally::Tally;
 use crate::words::words_in;
 use crate::{ParseFault, generate, parse};
-use ck_model::{Call, Path};
+use ck_model::{Call, NoMemory};
+use std::alloc::Global;
 use std::test::Fail;
 
+fn form(alloc: Global, line: &str) -> Result<Option<Form>, NoMemory> {
+    let words = words_in(alloc, line.as_bytes())?;
+    form_of(alloc, &words)
+}
+
 #[test]
-fn reads_calls(rt: HostRuntime) -> Result<(), Fail> {
-    let text =
-        "1 make /a\n# 1 make /b\n \t\n1\twrite /a  4095 t:x\r\n1 create c\n1 mount z c\n1 cread z /a 0 4096\n1 read /a 4096 7";
+fn takes_lines(rt: HostRuntime) -> Result<(), Fail> {
+    for line in [
+        "1 make /",
+        "64 mkdir /a/b",
+        "1 rm /...",
+        "1 rmdir /-",
+        "1 mv /a /",
+        "1 write /a 1073741824 t:~!",
+        "1 write /a 0 x:",
+        "1 fill /a 0 1048576 0a",
+        "1 trunc /a 1073741824",
+        "1 read /a 0 131072",
+        "1 ls /",
+        "1 stat /a",
+        "1 create c",
+        "1 create -n c",
+        "1 create -r c",
+        "1 remove c",
+        "1 nodata c",
+        "1 nodata -s c",
+        "1 removable c on",
+        "1 removable c off",
+        "1 ckpts",
+        "1 mount a .",
+        "1 umount z",
+        "1 cread z / 0 131072",
+        "1 cls a /",
+        "1 restore c",
+        "1 backup a a",
+        "1 full b",
+        "1 info",
+        "1\tsync ",
+        "turns",
+        " turns b",
+    ] {
+        assert!(rt; form(rt.alloc(), line)?.is_some(), "{line}");
+    }
+    Ok(())
+}
+
+#[test]
+fn refuses_lines(rt: HostRuntime) -> Result<(), Fail> {
+    for line in [
+        "",
+        "1",
+        "0 sync",
+        "65 sync",
+        "01 sync",
+        "+1 sync",
+        "1 synch",
+        "1 Sync",
+        "1 sync x",
+        "1 make",
+        "1 make /a /b",
+        "1 make a",
+        "1 make //a",
+        "1 make /a/",
+        "1 make /a/..",
+        "1 mv /a",
+        "1 write /a 1073741825 t:",
+        "1 write /a 01 t:x",
+        "1 write /a 0 x",
+        "1 write /a 0 x:0",
+        "1 write /a 0 x:0g",
+        "1 write /a 0 y:00",
+        "1 fill /a 0 1048577 61",
+        "1 fill /a 0 1 6",
+        "1 fill /a 0 1 616",
+        "1 trunc /a 1073741825",
+        "1 read /a 0 131073",
+        "1 read /a 0 01",
+        "1 create -c",
+        "1 create -r -n c",
+        "1 create -n",
+        "1 nodata -n c",
+        "1 removable c",
+        "1 removable c On",
+        "1 mount A c",
+        "1 mount aa c",
+        "1 cread { /a 0 1",
+        "1 cread a /a 0 131073",
+        "1 backup a",
+        "turns 0",
+        "turns 65",
+        "turns B",
+    ] {
+        assert!(rt; form(rt.alloc(), line)?.is_none(), "{line}");
+    }
+    Ok(())
+}
+
+#[test]
+fn reads_fields(rt: HostRuntime) -> Result<(), Fail> {
+    let fill = form(rt.alloc(), "64 fill /a/b 12 1048576 fF")?;
+    assert!(rt;
+        matches!(&fill, Some(Form::Called(64, Call::Fill(path, 12, 1_048_576, 255))) if path.items().len() == 2)
+    );
+    let write = form(rt.alloc(), "2 write / 3 x:00aF")?;
+    assert!(rt;
+        matches!(&write, Some(Form::Called(2, Call::Write(path, 3, bytes))) if path.items().is_empty() && bytes.items() == [0, 0xaf].as_slice())
+    );
+    let create = form(rt.alloc(), "1 create -n -r c")?;
+    assert!(rt;
+        matches!(&create, Some(Form::Called(1, Call::Create(name, true, true))) if name.bytes() == b"c".as_slice())
+    );
+    let turns = form(rt.alloc(), "turns 1 b 64")?;
+    assert!(rt;
+        matches!(&turns, Some(Form::Turned(turns)) if turns.items() == [1, 0, 64].as_slice())
+    );
+    Ok(())
+}
+
+#[test]
+fn reads_scripts(rt: HostRuntime) -> Result<(), Fail> {
+    let text = "1 make /a\n# 1 make /b\n \t\n1\twrite /a  4095 t:x\r\n1 create c\n1 read /a 4096 7";
     let script = parse(rt.alloc(), text.as_bytes()).ok().ok_or("refused")?;
-    let calls = script.calls.into_vec();
     assert!(rt; script.turns.items().is_empty());
-    assert_eq!(rt; calls.len(), 6);
-    for ((seq, line), call) in [(1, 1), (2, 4), (3, 5), (4, 6), (5, 7), (6, 8)]
-        .iter()
-        .zip(calls.iter())
-    {
+    let calls = script.calls.into_vec();
+    assert_eq!(rt; calls.len(), 4);
+    for ((seq, line), call) in [(1, 1), (2, 4), (3, 5), (4, 6)].iter().zip(calls.iter()) {
         assert_eq!(rt; (call.actor, call.seq, call.line), (1, *seq, *line));
     }
+    Ok(())
+}
+
+#[test]
+fn refuses_the_first_bad_line(rt: HostRuntime) -> Result<(), Fail> {
+    for (text, refused) in [
+        ("", None),
+        ("\r\n#\r\n", None),
+        ("1 make /a\n1 make a\n1 x\n", Some(2)),
+        ("1 make /a\r", Some(1)),
+        ("1 make /a\r\r\n", Some(1)),
+        ("1 make /a\rb\n", Some(1)),
+        (" # not at the front", Some(1)),
+        ("#\n\n2 make /a", Some(3)),
+        ("turns 1\n", Some(1)),
+        ("1 make /a/b\n", Some(1)),
+        ("1 write /a 4096 t:x", Some(1)),
+        ("1 read /a 0 4097", Some(1)),
+        ("1 create -n c", Some(1)),
+        ("1 sync", Some(1)),
+    ] {
+        let fault = parse(rt.alloc(), text.as_bytes()).err();
+        assert_eq!(rt; fault, refused.map(ParseFault::BadLine), "{text}");
+    }
+    Ok(())
+}
+
+#[test]
+fn takes_so_many_calls_and_bytes(rt: HostRuntime) -> Result<(), Fail> {
+    let calls = "1 make /a\n".as_bytes().repeat(rt.alloc(), 65_537)?;
+    assert_eq!(rt;
+        parse(rt.alloc(), &calls).err(),
+        Some(ParseFault::BadLine(65_537))
+    );
+    assert!(rt; parse(rt.alloc(), &calls[10..]).is_ok());
+    let long = "#23456789abcdef\n"
+        .as_bytes()
+        .repeat(rt.alloc(), 1_048_577)?;
+    assert_eq!(rt;
+        parse(rt.alloc(), &long).err(),
+        Some(ParseFault::BadLine(1_048_577))
+    );
+    assert!(rt; parse(rt.alloc(), &long[16..]).is_ok());
+    Ok(())
+}
+
+#[test]
+fn counts_by_actor(rt: HostRuntime) -> Result<(), Fail> {
+    let mut tally = Tally::new(rt.alloc());
+    for (actor, line) in [(2, 1), (64, 2), (2, 3), (1, 5), (64, 8)] {
+        assert!(rt; tally.add(line, Form::Called(actor, Call::Sync)).is_ok());
+    }
+    let (lines, _) = tally.into_parts();
+    for (line, wanted) in lines
+        .iter()
+        .zip([(2, 1, 1), (64, 1, 2), (2, 2, 3), (1, 1, 5), (64, 2, 8)])
+    {
+        assert_eq!(rt; (line.actor, line.seq, line.line), wanted);
+    }
+    Ok(())
+}
+
+#[test]
+fn counts_streams(rt: HostRuntime) {
+    let mut tally = Tally::new(rt.alloc());
+    for line in 1..18 {
+        let call = if line % 2 == 0 {
+            Call::Full(b'a')
+        } else {
+            Call::Backup(b'a', b'b')
+        };
+        let refused = if line == 17 {
+            Some(ParseFault::BadLine(17))
+        } else {
+            None
+        };
+        assert_eq!(rt; tally.add(line, Form::Called(1, call)).err(), refused);
+    }
+}
+
+#[test]
+fn generates(rt: HostRuntime) -> Result<(), Fail> {
+    assert_eq!(rt;
+        generate(rt.alloc(), 7, 1, 0)?.as_slice(),
+        b"1 make /f1\n1 fill /f1 0 30692 2e\n1 create base\n1 mount a base\n1 full a\n".as_slice()
+    );
     Ok(())
 }
