@@ -8,6 +8,8 @@ mod put;
 mod standard_error;
 mod status;
 mod story;
+#[cfg(test)]
+mod tests;
 mod words;
 
 pub use list::listing;
