@@ -1,14 +1,11 @@
 -- What is printed of a play.
 use Rattle.std.proofs.Common.{◌≡◌, ◌≤◌, ◌+◌, Bool, true, false, ℕ, IsTrue, List, [], ◌∷◌, Result, Ok, Err, OnOk, IfErr, inl, inr, refl, subst, arith, if◌then◌else◌}
-use Rattle.std.specs.Prelude.{◌||◌, map as list_map}
-use Rattle.std.specs.List.{AllByRecursion}
+use Rattle.std.specs.Prelude.{◌||◌}
 use Rattle.ck_disk.specs.Disk.{Meaning, Rose}
-use Rattle.ck_model.specs.declared.call.Call.{Call}
 use Rattle.ck_model.specs.declared.entry.Entry.{Entry}
 use Rattle.ck_model.specs.History.{call_at, is_write_fault}
-use Rattle.ck_script.specs.declared.line.Line.{Line}
 use Rattle.ck_script.specs.Numbered.{calls_in}
-use Rattle.ck_script.specs.Reading.{read_script}
+use Rattle.ck_script.specs.Reading.{Parsed, read_script}
 use Rattle.ck_report.specs.declared.status.Status.{Status}
 use Rattle.ck_report.specs.declared.status.Status.TheVariants.{Done, Refused, Usage, BadScript, NotOpened, DeviceFault, SourceFault, SinkFault, NoMemory}
 use Rattle.ck_report.specs.Transcript.{transcript_text}
@@ -18,15 +15,7 @@ use Rattle.ck_io.specs.Source.{SourceMeaning}
 use Rattle.ck_volume.specs.Opening.{device_blocks}
 use Rattle.ck_admin.specs.Play.{IsPlay, HasCauses, replies_of, lost_a_write}
 use Rattle.ck_admin.specs.Statuses.{IsPrintFault, play_status}
-use Rattle.ck_admin.specs.Top.{by_one, PrintsPlay, Gains, GainsFront, GainsAllOrNothing, EndsPlay, leaves_device}
-
-abbrev pub calls_alone : List Line → List Call
-calls_alone lines = list_map (λ line. line.call) lines
-
--- lines of actor 1 are its calls
-by_one_is : (lines : List Line) → AllByRecursion (λ line. line.actor ≡ 1) lines → calls_in lines ≡ by_one (calls_alone lines)
-by_one_is [] all = refl
-by_one_is (line ∷ lines) all = λ i. (all.0 i, line.call) ∷ by_one_is lines all.1 i
+use Rattle.ck_admin.specs.Top.{PrintsPlay, Gains, GainsFront, GainsAllOrNothing, EndsPlay, leaves_device}
 
 -- a history that lost a write has an entry that tells of it
 some_lost : (history : List Entry) → lost_a_write history ≡ true → 1 ≤ replies_of is_write_fault history
@@ -41,24 +30,13 @@ some_lost (entry ∷ history) h =
 pub lost-rose : (before after : Meaning) (history : List Entry) → HasCauses before after history → lost_a_write history ≡ true → Rose before.write_faults after.write_faults
 lost-rose before after history causes lost = let some = some_lost history lost in omega (arith, causes.writes, some)
 
-module _ (source left : SourceMeaning) (clock : ClockMeaning) (old new : SinkMeaning) (before after : Meaning) (lines : List Line) (history : List Entry)
-    (script : IsTrue source.tells → read_script source.left ≡ Ok (calls_alone lines)) (actor : AllByRecursion (λ line. line.actor ≡ 1) lines)
-    (long : device_blocks ≤ before.size) (play : IsPlay (calls_in lines) clock before after history) where
+module _ (source left : SourceMeaning) (clock : ClockMeaning) (old new : SinkMeaning) (before after : Meaning) (read : Parsed) (history : List Entry)
+    (script : IsTrue source.tells → read_script source.left ≡ Ok read) (long : device_blocks ≤ before.size) (play : IsPlay (calls_in read.calls) clock before after history) where
   abbrev text : List ℕ
-  text = transcript_text (call_at (calls_in lines)) history
+  text = transcript_text (call_at (calls_in read.calls)) history
 
   prints : (lost : Bool) (P : List ℕ → Type 0) → lost_a_write history ≡ lost → P text → PrintsPlay source clock before after lost P
-  prints lost P is printed =
-      let same = by_one_is lines actor in
-      record {
-        calls = calls_alone lines;
-        history = history;
-        script = script;
-        long = long;
-        play = subst (λ script. IsPlay script clock before after history) same play;
-        write_faults = is;
-        printed = subst (λ script. P (transcript_text (call_at script) history)) same printed;
-      }
+  prints lost P is printed = record { read = read; history = history; script = script; long = long; play = play; write_faults = is; printed = printed }
 
   -- printing the transcript failed, of a play that lost no write
   unprinted : lost_a_write history ≡ false → (status : Status) → IsPrintFault old new text status → EndsPlay source left clock old new before after status

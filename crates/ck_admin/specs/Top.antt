@@ -1,8 +1,7 @@
 -- What the top call promises.
-use Rattle.std.specs.Prelude.{◌≡◌, ◌≤◌, ◌<◌, ◌++◌, ◌⊎◌, ℕ, Bool, true, false, nat_eq, List, [], ◌∷◌, IsTrue, Ok, Err, codes, map as list_map}
+use Rattle.std.specs.Prelude.{◌≡◌, ◌≤◌, ◌<◌, ◌++◌, ◌⊎◌, ℕ, Bool, true, false, nat_eq, List, [], ◌∷◌, IsTrue, Ok, Err, codes}
 use Rattle.std.specs.Cmp.Lexicographic.{pointwise}
 use Rattle.ck_disk.specs.Disk.{Meaning, Rose}
-use Rattle.ck_model.specs.declared.call.Call.{Call}
 use Rattle.ck_model.specs.declared.entry.Entry.{Entry}
 use Rattle.ck_model.specs.History.{call_at}
 use Rattle.ck_report.specs.declared.status.Status.{Status}
@@ -13,24 +12,21 @@ use Rattle.ck_io.specs.Clock.{ClockMeaning}
 use Rattle.ck_io.specs.Faults as io
 use Rattle.ck_io.specs.Sink.{SinkMeaning}
 use Rattle.ck_io.specs.Source.{SourceMeaning}
-use Rattle.ck_script.specs.Reading.{read_script}
+use Rattle.ck_script.specs.Numbered.{calls_in}
+use Rattle.ck_script.specs.Reading.{Parsed, read_script}
 use Rattle.ck_volume.specs.Opening.{device_blocks}
 use Rattle.ck_admin.specs.Play.{IsPlay, lost_a_write}
-
--- each call by actor 1
-abbrev pub by_one : List Call → List (ℕ × Call)
-by_one calls = list_map (λ call. (1, call)) calls
 
 -- What the source had left is a script, this is a play of it on the device, which is long enough, and P holds of the
 -- play's transcript. A write of it failed or not. A source that doesn't tell what it had left may have had any script.
 pub record PrintsPlay (source : SourceMeaning) (clock : ClockMeaning) (before after : Meaning) (lost : Bool) (P : List ℕ → Type 0) : Type 0 where
-  pub calls : List Call
+  pub read : Parsed
   pub history : List Entry
-  pub script : IsTrue source.tells → read_script source.left ≡ Ok calls
+  pub script : IsTrue source.tells → read_script source.left ≡ Ok read
   pub long : device_blocks ≤ before.size
-  pub play : IsPlay (by_one calls) clock before after history
+  pub play : IsPlay (calls_in read.calls) clock before after history
   pub write_faults : lost_a_write history ≡ lost
-  pub printed : P (transcript_text (call_at (by_one calls)) history)
+  pub printed : P (transcript_text (call_at (calls_in read.calls)) history)
 
 -- where the sink tells what it holds, it gained this text
 abbrev pub Gains : SinkMeaning → SinkMeaning → List ℕ → Type 0

@@ -75,8 +75,7 @@ fn play_volume<K: Sink, D: Disk, C: Clock>(
     requires long { device_blocks ≤ (D.means (disk_of volume)).size }
     requires built { AllByRecursion (λ line. IsBuilt line.call) script.now.calls }
     requires few { length script.now.calls ≤ 65536 }
-    requires actor { AllByRecursion (λ line. line.actor ≡ 1) script.now.calls }
-    ensures ends { (source left : SourceMeaning) → (IsTrue source.tells → read_script source.left ≡ Ok (list_map (λ line. line.call) script.now.calls)) → EndsPlay source left (C.means clock.old) (K.means out.old) (K.means out.new) (D.means (disk_of volume)) (D.means result.disk) result.status }
+    ensures ends { (source left : SourceMeaning) → (IsTrue source.tells → read_script source.left ≡ Ok (record { calls = script.now.calls; turns = script.now.turns })) → EndsPlay source left (C.means clock.old) (K.means out.old) (K.means out.new) (D.means (disk_of volume)) (D.means result.disk) result.status }
     ensures begun { leaves_device result.status ≡ false }
     ensures later { IsLater (D.means (disk_of volume)) (D.means result.disk) }
     ensures out_tells { (K.means out.new).tells ≡ (K.means out.old).tells }

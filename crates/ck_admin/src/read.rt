@@ -1,4 +1,4 @@
-ghost use Rattle.std.specs.Prelude.{◌≡◌, ◌≤◌, IsTrue, IfOk, IfErr, Ok, length, map as list_map};
+ghost use Rattle.std.specs.Prelude.{◌≡◌, ◌≤◌, IsTrue, IfOk, IfErr, Ok, length};
 ghost use Rattle.std.specs.List.{AllByRecursion};
 ghost use Rattle.ck_script.specs.Reading.{read_script};
 ghost use Rattle.ck_volume.specs.Built.{IsBuilt};
@@ -28,10 +28,9 @@ fn read_bytes<S: Source>(alloc: Global, source: &mut S) -> Result<Vec<u8>, Statu
 
 /// Reads the source to its end, and what it gives as a script.
 pub fn read<S: Source>(alloc: Global, source: &mut S) -> Result<Script, Status>
-    ensures script { IfOk result (λ script. IsTrue (S.means source.old).tells → read_script (S.means source.old).left ≡ Ok (list_map (λ line. line.call) script.calls)) }
+    ensures script { IfOk result (λ script. IsTrue (S.means source.old).tells → read_script (S.means source.old).left ≡ Ok (record { calls = script.calls; turns = script.turns })) }
     ensures built { IfOk result (λ script. AllByRecursion (λ line. IsBuilt line.call) script.calls) }
     ensures few { IfOk result (λ script. length script.calls ≤ 65536) }
-    ensures actor { IfOk result (λ script. AllByRecursion (λ line. line.actor ≡ 1) script.calls) }
     ensures fault { IfErr result (λ status. IsReadFault (S.means source.old) (S.means source.new) status) }
     ensures tells { (S.means source.new).tells ≡ (S.means source.old).tells }
     ensures faults { (S.means source.old).faults ≤ (S.means source.new).faults }

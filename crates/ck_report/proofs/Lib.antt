@@ -1,2 +1,2 @@
-pub mod AppendLemmas
 pub mod CallLemmas
+pub mod ListingLemmas

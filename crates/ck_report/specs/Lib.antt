@@ -2,3 +2,4 @@ pub mod Words
 pub mod Transcript
 pub mod Status
 pub mod Places
+pub mod Listing

@@ -1,13 +1,18 @@
 //! The texts of the programs: calls, replies, transcripts, and the lines on standard error.
 #![tactic(auto)]
 
+mod date;
 mod finding;
+mod list;
 mod put;
 mod standard_error;
 mod status;
 mod story;
+#[cfg(test)]
+mod tests;
 mod words;
 
+pub use list::listing;
 pub use standard_error::fault_line;
 pub use status::Status;
 pub use story::transcript;

@@ -158,7 +158,7 @@ fn put_children(out: &mut Vec<u8>, children: &[Child]) -> Result<(), NoMemory>
     Ok(())
 }
 
-fn state_text(state: State) -> &'static [u8]
+pub fn state_text(state: State) -> &'static [u8]
     ensures { result.now ≡ state_word state }
 {
     match state {
@@ -168,7 +168,7 @@ fn state_text(state: State) -> &'static [u8]
     }
 }
 
-fn keep_text(removable: bool) -> &'static [u8]
+pub fn keep_text(removable: bool) -> &'static [u8]
     ensures { result.now ≡ keep_word removable }
 {
     if removable { b"removable" } else { b"keep" }

@@ -1,4 +1,8 @@
 pub mod NameLemmas
+pub mod PathLemmas
+pub mod FormLemmas
+pub mod KeepsLemmas
+pub mod TallyLemmas
 pub mod LinesLemmas
 pub mod ReadingLemmas
-pub mod OrderLemmas
+pub mod GeneratorLemmas

@@ -7,7 +7,7 @@ use Rattle.std.proofs.lemmas.Slice.Eq.{bytes_eq-Decides}
 use Rattle.ck_model.specs.Name.{IsName, IsNameByte, IsFileName}
 use Rattle.ck_script.specs.Grammar.{is_name, is_file_name, is_printable}
 
-Decides-nat_le : (a b : ℕ) → Decides (nat_le a b) (a ≤ b)
+pub Decides-nat_le : (a b : ℕ) → Decides (nat_le a b) (a ≤ b)
 Decides-nat_le a b = (λ e. grind (arith, nat_tests, e), λ h. grind (arith, nat_tests, h))
 
 Decides-name_byte : (byte : ℕ) → Decides (is_printable byte && not (nat_eq byte 47)) (IsNameByte byte)
@@ -37,10 +37,3 @@ name_read word found some value = step (is_name word) (Decides-name word) found 
     step true d (Some name) some value = ap Some value
     step false d None some value = refl
     step false d (Some name) some value = let wrong : false ≡ true = d.1 (some.0 refl) in cc
-
-pub file_name_found : (word name : List ℕ) → Some name ≡ (if is_file_name word then Some word else None) → IsFileName name
-file_name_found word name e = step (is_file_name word) (Decides-file_name word) e
-  where
-    step : (b : Bool) → Decides b (IsFileName word) → Some name ≡ cond b (Some word) None → IsFileName name
-    step true d e = let same : name ≡ word = cc in subst IsFileName (sym same) (d.0 refl)
-    step false d e = cc

@@ -5,71 +5,66 @@ use Rattle.std.specs.Option.{option_map_or}
 use Rattle.std.specs.Str.Lines.{lines}
 use Rattle.std.proofs.lemmas.Bool.Decides.{nat_tests}
 use Rattle.std.proofs.lemmas.List.{take-take, take_all, drop_all}
-use Rattle.ck_model.specs.declared.call.Call.{Call}
 use Rattle.ck_script.specs.declared.fault.ParseFault.{ParseFault}
 use Rattle.ck_script.specs.declared.fault.ParseFault.TheVariants.{BadLine, NoMemory}
-use Rattle.ck_script.specs.Reading.{read_lines, read_script, long_line, script_limit, is_skipped, one_more, call_in}
-use Rattle.ck_script.specs.Steps.{IsFaultOf, IsRefusal, calls_after, line_at}
+use Rattle.ck_script.specs.Limits.{script_limit}
+use Rattle.ck_script.specs.Reading.{Parsed, nothing_read, read_lines, read_script, long_line, with_line}
+use Rattle.ck_script.specs.Steps.{IsFaultOf, IsRefusal, line_at}
 use Rattle.ck_script.proofs.LinesLemmas.{is_feed, next_line}
 
 -- one line, with the reading of those behind it
-abbrev step : Bool → Bool → Option (List Call) → ℕ → List Call → (List Call → Result (List Call) ℕ) → Result (List Call) ℕ
-step long skipped one number calls rest = cond long (Err number) (cond skipped (rest calls) (option_map_or rest one (Err number)))
+abbrev step : Bool → Option Parsed → ℕ → (Parsed → Result Parsed ℕ) → Result Parsed ℕ
+step long after number rest = cond long (Err number) (option_map_or rest after (Err number))
 
-step_on : (long skipped : Bool) (one : Option (List Call)) (number : ℕ) (calls more : List Call) (rest : List Call → Result (List Call) ℕ) → long ≡ false → cond skipped (Some calls) one ≡ Some more → step long skipped one number calls rest ≡ rest more
-step_on true skipped one number calls more rest short after = cc
-step_on false true one number calls more rest short after = let same : calls ≡ more = cc in ap rest same
-step_on false false None number calls more rest short after = cc
-step_on false false (Some found) number calls more rest short after = let same : found ≡ more = cc in ap rest same
+step_on : (long : Bool) (after : Option Parsed) (number : ℕ) (more : Parsed) (rest : Parsed → Result Parsed ℕ) → long ≡ false → after ≡ Some more → step long after number rest ≡ rest more
+step_on long after number more rest short is = λ i. step (short i) (is i) number rest
 
-step_refused : (long skipped : Bool) (one : Option (List Call)) (number : ℕ) (calls : List Call) (rest : List Call → Result (List Call) ℕ) → cond skipped (Some calls) one ≡ None → step long skipped one number calls rest ≡ Err number
-step_refused true skipped one number calls rest after = refl
-step_refused false true one number calls rest after = cc
-step_refused false false None number calls rest after = refl
-step_refused false false (Some found) number calls rest after = cc
+step_refused : (long : Bool) (after : Option Parsed) (number : ℕ) (rest : Parsed → Result Parsed ℕ) → after ≡ None → step long after number rest ≡ Err number
+step_refused true after number rest is = refl
+step_refused false after number rest is = ap (λ after. option_map_or rest after (Err number)) is
 
 -- the reading goes on behind a line that isn't refused
-pub read_lines-step : (long : Option ℕ) (number : ℕ) (calls more : List Call) (line : List ℕ) (rest : List (List ℕ)) → option_map_or (nat_eq number) long false ≡ false → calls_after calls line ≡ Some more →
-    read_lines long number calls (line ∷ rest) ≡ read_lines long (number + 1) more rest
-read_lines-step long number calls more line rest short after =
-    step_on (option_map_or (nat_eq number) long false) (is_skipped line) (one_more calls (call_in line)) number calls more (λ more. read_lines long (number + 1) more rest) short after
+pub read_lines-step : (long : Option ℕ) (number : ℕ) (read more : Parsed) (line : List ℕ) (rest : List (List ℕ)) → option_map_or (nat_eq number) long false ≡ false → with_line number read line ≡ Some more →
+    read_lines long number read (line ∷ rest) ≡ read_lines long (number + 1) more rest
+read_lines-step long number read more line rest short after =
+    step_on (option_map_or (nat_eq number) long false) (with_line number read line) number more (λ more. read_lines long (number + 1) more rest) short after
 
--- a line with which there is no list of calls is refused
-pub line_refused : (long : Option ℕ) (number : ℕ) (calls : List Call) (line : List ℕ) (rest : List (List ℕ)) (fault : ParseFault) → IsRefusal number (calls_after calls line) fault →
-    IsFaultOf (read_lines long number calls (line ∷ rest)) fault
-line_refused long number calls line rest NoMemory refused = tt
-line_refused long number calls line rest (BadLine n) refused =
-    step_refused (option_map_or (nat_eq number) long false) (is_skipped line) (one_more calls (call_in line)) number calls (λ more. read_lines long (number + 1) more rest) refused.1
+-- a line behind which there is nothing read is refused
+pub line_refused : (long : Option ℕ) (number : ℕ) (read : Parsed) (line : List ℕ) (rest : List (List ℕ)) (fault : ParseFault) → IsRefusal number (with_line number read line) fault →
+    IsFaultOf (read_lines long number read (line ∷ rest)) fault
+line_refused long number read line rest NoMemory refused = tt
+line_refused long number read line rest (BadLine n) refused =
+    step_refused (option_map_or (nat_eq number) long false) (with_line number read line) number (λ more. read_lines long (number + 1) more rest) refused.1
     ∙ ap Err (sym refused.0)
 
 -- the line that has the byte behind the limit is refused
-pub long_refused : (long : Option ℕ) (number : ℕ) (calls : List Call) (line : List ℕ) (rest : List (List ℕ)) → option_map_or (nat_eq number) long false ≡ true → read_lines long number calls (line ∷ rest) ≡ Err number
-long_refused long number calls line rest is_long =
-    ap (λ b. step b (is_skipped line) (one_more calls (call_in line)) number calls (λ more. read_lines long (number + 1) more rest)) is_long
+pub long_refused : (long : Option ℕ) (number : ℕ) (read : Parsed) (line : List ℕ) (rest : List (List ℕ)) → option_map_or (nat_eq number) long false ≡ true → read_lines long number read (line ∷ rest) ≡ Err number
+long_refused long number read line rest is_long =
+    ap (λ b. step b (with_line number read line) number (λ more. read_lines long (number + 1) more rest)) is_long
 
-pub next_read : (text : List ℕ) (long : Option ℕ) (at end number : ℕ) (calls more : List Call) (outcome : Result (List Call) ℕ) →
-    at < length text → end ≡ at + position_or_len is_feed (drop at text) → option_map_or (nat_eq number) long false ≡ false → calls_after calls (line_at text at end) ≡ Some more →
-    read_lines long number calls (lines (drop at text)) ≡ outcome → read_lines long (number + 1) more (lines (drop (end + 1) text)) ≡ outcome
-next_read text long at end number calls more outcome within is short after so_far =
-    sym (read_lines-step long number calls more (line_at text at end) (lines (drop (end + 1) text)) short after) ∙ ap (read_lines long number calls) (sym (next_line text at end within is)) ∙ so_far
+pub next_read : (text : List ℕ) (long : Option ℕ) (at end number : ℕ) (read more : Parsed) (outcome : Result Parsed ℕ) →
+    at < length text → end ≡ at + position_or_len is_feed (drop at text) → option_map_or (nat_eq number) long false ≡ false → with_line number read (line_at text at end) ≡ Some more →
+    read_lines long number read (lines (drop at text)) ≡ outcome → read_lines long (number + 1) more (lines (drop (end + 1) text)) ≡ outcome
+next_read text long at end number read more outcome within is short after so_far =
+    sym (read_lines-step long number read more (line_at text at end) (lines (drop (end + 1) text)) short after) ∙ ap (read_lines long number read) (sym (next_line text at end within is)) ∙ so_far
 
-pub next_refused : (text : List ℕ) (long : Option ℕ) (at end number : ℕ) (calls : List Call) (fault : ParseFault) (outcome : Result (List Call) ℕ) →
-    at < length text → end ≡ at + position_or_len is_feed (drop at text) → IsRefusal number (calls_after calls (line_at text at end)) fault →
-    read_lines long number calls (lines (drop at text)) ≡ outcome → IsFaultOf outcome fault
-next_refused text long at end number calls fault outcome within is refused so_far =
-    let same = ap (read_lines long number calls) (sym (next_line text at end within is)) ∙ so_far in
-    subst (λ outcome. IsFaultOf outcome fault) same (line_refused long number calls (line_at text at end) (lines (drop (end + 1) text)) fault refused)
+pub next_refused : (text : List ℕ) (long : Option ℕ) (at end number : ℕ) (read : Parsed) (fault : ParseFault) (outcome : Result Parsed ℕ) →
+    at < length text → end ≡ at + position_or_len is_feed (drop at text) → IsRefusal number (with_line number read (line_at text at end)) fault →
+    read_lines long number read (lines (drop at text)) ≡ outcome → IsFaultOf outcome fault
+next_refused text long at end number read fault outcome within is refused so_far =
+    let same = ap (read_lines long number read) (sym (next_line text at end within is)) ∙ so_far in
+    subst (λ outcome. IsFaultOf outcome fault) same (line_refused long number read (line_at text at end) (lines (drop (end + 1) text)) fault refused)
 
-pub next_long : (text : List ℕ) (long : Option ℕ) (at number : ℕ) (calls : List Call) (outcome : Result (List Call) ℕ) →
-    at < length text → option_map_or (nat_eq number) long false ≡ true → read_lines long number calls (lines (drop at text)) ≡ outcome → outcome ≡ Err number
-next_long text long at number calls outcome within is_long so_far =
+pub next_long : (text : List ℕ) (long : Option ℕ) (at number : ℕ) (read : Parsed) (outcome : Result Parsed ℕ) →
+    at < length text → option_map_or (nat_eq number) long false ≡ true → read_lines long number read (lines (drop at text)) ≡ outcome → outcome ≡ Err number
+next_long text long at number read outcome within is_long so_far =
     let end = at + position_or_len is_feed (drop at text) in
-    sym so_far ∙ ap (read_lines long number calls) (next_line text at end within refl) ∙ long_refused long number calls (line_at text at end) (lines (drop (end + 1) text)) is_long
+    sym so_far ∙ ap (read_lines long number read) (next_line text at end within refl) ∙ long_refused long number read (line_at text at end) (lines (drop (end + 1) text)) is_long
 
-pub at_the_end : (text : List ℕ) (long : Option ℕ) (at number : ℕ) (calls : List Call) (outcome : Result (List Call) ℕ) →
-    length text ≤ at → read_lines long number calls (lines (drop at text)) ≡ outcome → outcome ≡ option_map_or (λ line. Err line) long (Ok calls)
-at_the_end text long at number calls outcome ended so_far =
-    sym so_far ∙ ap (λ rest. read_lines long number calls (lines rest)) (drop_all at text ended)
+pub at_the_end : (text : List ℕ) (long : Option ℕ) (at number : ℕ) (read : Parsed) (outcome : Result Parsed ℕ) →
+    length text ≤ at → read_lines long number read (lines (drop at text)) ≡ outcome → outcome ≡ option_map_or (λ line. Err line) long (Ok read)
+at_the_end text long at number read outcome ended so_far =
+    sym so_far ∙ ap (λ rest. read_lines long number read (lines rest)) (drop_all at text ended)
 
 -- the number of the line that has the byte behind this limit
 abbrev long_at : ℕ → List ℕ → Option ℕ
@@ -88,13 +83,13 @@ long_at-take limit text =
           ap (long_at limit) (take_all (limit + 1) text (omega (arith, ge)))
     ] refl
 
-read_at-take : (limit : ℕ) (text : List ℕ) → read_lines (long_at limit (take (limit + 1) text)) 1 [] (lines (take limit (take (limit + 1) text))) ≡ read_lines (long_at limit text) 1 [] (lines (take limit text))
-read_at-take limit text = λ i. read_lines (long_at-take limit text i) 1 [] (lines (take-take limit (limit + 1) text (omega arith) i))
+read_at-take : (limit : ℕ) (text : List ℕ) → read_lines (long_at limit (take (limit + 1) text)) 1 nothing_read (lines (take limit (take (limit + 1) text))) ≡ read_lines (long_at limit text) 1 nothing_read (lines (take limit text))
+read_at-take limit text = λ i. read_lines (long_at-take limit text i) 1 nothing_read (lines (take-take limit (limit + 1) text (omega arith) i))
 
 -- no byte but the first one behind the limit is looked at
 pub read_script-take : (text : List ℕ) → read_script (take (script_limit + 1) text) ≡ read_script text
 read_script-take text = read_at-take script_limit text
 
 -- a script, by its bytes up to the limit and the number of a line that is too long
-pub read_script-is : (bytes text : List ℕ) (long : Option ℕ) → long ≡ long_line bytes → text ≡ take script_limit bytes → read_script bytes ≡ read_lines long 1 [] (lines text)
-read_script-is bytes text long long_is text_is = λ i. read_lines (sym long_is i) 1 [] (lines (sym text_is i))
+pub read_script-is : (bytes text : List ℕ) (long : Option ℕ) → long ≡ long_line bytes → text ≡ take script_limit bytes → read_script bytes ≡ read_lines long 1 nothing_read (lines text)
+read_script-is bytes text long long_is text_is = λ i. read_lines (sym long_is i) 1 nothing_read (lines (sym text_is i))

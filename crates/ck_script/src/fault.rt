@@ -2,7 +2,7 @@ ghost use Rattle.std.specs.Prelude.{◌≡◌};
 ghost use Rattle.ck_script.specs.declared.fault.ParseFault.TheVariants.{NoMemory as OutOfMemory};
 
 use ck_model::NoMemory;
-use std::alloc::AllocFailed;
+use std::alloc::{AllocError, AllocFailed};
 
 /// Why a script isn't read.
 #[derive(Debug, Drop, Clone, Copy, PartialEq, Eq)]
@@ -16,6 +16,14 @@ impl From<NoMemory> for ParseFault {
     ghost from_gives = { λ _ fault. fault ≡ OutOfMemory };
 
     fn from(_error: NoMemory) -> ParseFault {
+        ParseFault::NoMemory
+    }
+}
+
+impl From<AllocError> for ParseFault {
+    ghost from_gives = { λ _ fault. fault ≡ OutOfMemory };
+
+    fn from(_error: AllocError) -> ParseFault {
         ParseFault::NoMemory
     }
 }

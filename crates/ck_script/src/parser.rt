@@ -1,11 +1,14 @@
-ghost use Rattle.std.specs.Prelude.{◌≡◌, false, ◌+◌, ◌≤◌, ◌<◌, ◌++◌, [], ◌∷◌, ◌==◌, Some, Ok, IfOk, IfErr, OnOk, length, take, drop, count_by, nat_eq, map as list_map};
+ghost use Rattle.std.specs.Prelude.{◌≡◌, false, ◌+◌, ◌≤◌, ◌==◌, Some, Ok, IfOk, IfErr, OnOk, IsTrue, length, take, drop, count_by, nat_eq, map as list_map};
 ghost use Rattle.std.specs.List.{position_or_len, AllByRecursion};
 ghost use Rattle.std.specs.Option.{option_map_or};
 ghost use Rattle.std.specs.Str.Lines.{lines as lines_of, strip_carriage_return};
-ghost use Rattle.ck_script.specs.Reading.{long_line as long_line_of, read_lines, read_script};
-ghost use Rattle.ck_script.specs.Steps.{IsFaultOf, IsRefusal, calls_after, calls_of, line_at};
+ghost use Rattle.ck_text.specs.Words.{words_of};
+ghost use Rattle.ck_script.specs.Built.{is_built};
+ghost use Rattle.ck_script.specs.declared.form.Form.TheVariants as forms;
+ghost use Rattle.ck_script.specs.Reading.{is_skipped as skips, long_line as long_line_of, nothing_read, with_line, read_lines, read_script};
+ghost use Rattle.ck_script.specs.Steps.{IsFaultOf, IsRefusal, line_at};
 
-use crate::calls::call_by_words;
+use crate::forms::built_form;
 use crate::tally::Tally;
 use crate::words::words_in;
 use crate::{Lines, ParseFault, Script};
@@ -14,16 +17,23 @@ use std::alloc::Global;
 /// The longest script, in bytes.
 const SCRIPT_LIMIT: usize = 16_777_216;
 
+fn is_skipped(line: &[u8], words: &[&[u8]]) -> bool
+    requires { list_map (λ word. word.now) words.now ≡ words_of line.now }
+    ensures { result ≡ skips line.now }
+{
+    words.is_empty() || (!line.is_empty() && line[0] == b'#')
+}
+
 fn read_line(alloc: Global, tally: &mut Tally, number: u32, line: &[u8]) -> Result<(), ParseFault>
-    ensures ok { OnOk result (calls_after (calls_of tally.old) line.now ≡ Some (calls_of tally.new)) }
-    ensures err { IfErr result (IsRefusal number (calls_after (calls_of tally.old) line.now)) }
+    ensures ok { OnOk result (with_line number tally.old line.now ≡ Some tally.new) }
+    ensures err { IfErr result (IsRefusal number (with_line number tally.old line.now)) }
 {
     let words = words_in(alloc, line)?;
-    if words.is_empty() || (!line.is_empty() && line[0] == b'#') {
+    if is_skipped(line, &words) {
         return Ok(());
     }
-    match call_by_words(alloc, &words)? {
-        Some(call) => tally.add(number, call),
+    match built_form(alloc, &words)? {
+        Some(form) => tally.add(number, form),
         None => Err(ParseFault::BadLine(number)),
     }
 }
@@ -93,8 +103,8 @@ fn is_long(number: u32, long: Option<u32>) -> bool
 
 fn read_text(alloc: Global, long: Option<u32>, text: &[u8]) -> Result<Tally, ParseFault>
     requires { length text.now ≤ SCRIPT_LIMIT }
-    ensures calls { IfOk result (λ tally. read_lines long 1 [] (lines_of text.now) ≡ Ok (calls_of tally)) }
-    ensures err { IfErr result (IsFaultOf (read_lines long 1 [] (lines_of text.now))) }
+    ensures read { IfOk result (λ tally. read_lines long 1 nothing_read (lines_of text.now) ≡ Ok tally) }
+    ensures err { IfErr result (IsFaultOf (read_lines long 1 nothing_read (lines_of text.now))) }
 {
     let mut tally = Tally::new(alloc);
     let mut number = 1;
@@ -126,17 +136,19 @@ fn within_limit(bytes: &[u8]) -> &[u8]
     }
 }
 
-/// The calls of a script, or the number of its first line that is refused.
+/// The calls and turns of a script, or the number of its first line that is refused.
 ///
 /// Of a script with more than 16,777,216 bytes only so many are looked at, and the line with the
 /// next byte is refused.
 pub fn parse(alloc: Global, bytes: &[u8]) -> Result<Script, ParseFault>
-    ensures calls { IfOk result (λ script. read_script bytes.now ≡ Ok (list_map (λ line. line.call) script.calls)) }
-    ensures actor { IfOk result (λ script. AllByRecursion (λ line. line.actor ≡ 1) script.calls) }
+    ensures read { IfOk result (λ script. read_script bytes.now ≡ Ok (record { calls = script.calls; turns = script.turns })) }
+    ensures built { IfOk result (λ script. AllByRecursion (λ line. IsTrue (is_built (forms.Called line.actor line.call))) script.calls) }
     ensures refused { IfErr result (IsFaultOf (read_script bytes.now)) }
 {
     let tally = read_text(alloc, long_line(bytes), within_limit(bytes))?;
+    let (lines, turns) = tally.into_parts();
     Ok(Script {
-        calls: Lines::of(tally.into_lines()),
+        calls: Lines::of(lines),
+        turns,
     })
 }

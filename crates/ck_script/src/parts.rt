@@ -1,11 +1,23 @@
-ghost use Rattle.std.specs.Prelude.{◌≡◌, [], ◌∷◌, Some, None, IfOk, IfSome, if◌then◌else◌};
+ghost use Rattle.std.specs.Prelude.{◌≡◌, Some, None, IfOk, if◌then◌else◌};
 ghost use Rattle.std.specs.List.{list_all};
-ghost use Rattle.ck_model.specs.Name.{IsFileName};
-ghost use Rattle.ck_script.specs.Grammar.{is_text as same_text, is_printable as printable, is_name, is_file_name, checkpoint_name as checkpoint_name_of, path_of as path_in, number_up_to as number_within, bytes_of as bytes_in, letter_of as letter_in};
+ghost use Rattle.ck_text.specs.Hexadecimal.{hex_value};
+ghost use Rattle.ck_script.specs.Grammar.{is_text as same_text, is_printable as printable, is_name, checkpoint_name as checkpoint_name_of, path_of as path_in, number_up_to as number_within, actor_of as actor_in, place_of as place_in, fill_length as fill_length_of, read_length as read_length_of, spelled_by as bytes_spelled, bytes_of as bytes_in, single as single_byte, byte_of as byte_in, letter_of as letter_in, switch_of as switch_in};
 
 use ck_model::{NameBytes, NoMemory, Octets, Path};
-use ck_text::decimal;
+use ck_text::{decimal, hex_bytes};
 use std::alloc::Global;
+
+/// Places and sizes go up to this many bytes.
+const PLACE_LIMIT: u32 = 1_073_741_824;
+
+/// The longest fill, in bytes.
+const FILL_LIMIT: u32 = 1_048_576;
+
+/// The longest read, in bytes.
+const READ_LIMIT: u32 = 131_072;
+
+/// The longest write, in bytes.
+const WRITE_LIMIT: usize = 65_536;
 
 pub fn is_text(word: &[u8], text: &[u8]) -> bool
     ensures { result ≡ same_text word.now text.now }
@@ -25,16 +37,6 @@ fn name(word: &[u8]) -> Option<NameBytes>
     NameBytes::read(word)
 }
 
-fn file_name(word: &[u8]) -> Option<NameBytes>
-    ensures value { result ≡ (if is_file_name word.now then Some word.now else None) }
-    ensures name { IfSome result IsFileName }
-{
-    if is_text(word, b".") || is_text(word, b"..") {
-        return None;
-    }
-    name(word)
-}
-
 pub fn checkpoint_name(word: &[u8]) -> Option<NameBytes>
     ensures { result ≡ checkpoint_name_of word.now }
 {
@@ -44,29 +46,13 @@ pub fn checkpoint_name(word: &[u8]) -> Option<NameBytes>
     name(word)
 }
 
-/// The path of one name.
-fn path_to(alloc: Global, name: NameBytes) -> Result<Path, NoMemory>
-    requires { IsFileName name }
-    ensures { IfOk result (λ path. path ≡ name ∷ []) }
-{
-    let mut names = Vec::new(alloc);
-    names.push(name)?;
-    Ok(Path::of(names))
-}
-
 pub fn path_of(alloc: Global, word: &[u8]) -> Result<Option<Path>, NoMemory>
     ensures { IfOk result (λ path. path ≡ path_in word.now) }
 {
-    if word.is_empty() || word[0] != b'/' {
-        return Ok(None);
-    }
-    match file_name(&word[1..]) {
-        Some(name) => Ok(Some(path_to(alloc, name)?)),
-        None => Ok(None),
-    }
+    Path::read(alloc, word)
 }
 
-pub fn number_up_to(limit: u32, word: &[u8]) -> Option<u32>
+fn number_up_to(limit: u32, word: &[u8]) -> Option<u32>
     ensures { result ≡ number_within limit word.now }
 {
     let number = decimal(word)?;
@@ -77,19 +63,86 @@ pub fn number_up_to(limit: u32, word: &[u8]) -> Option<u32>
     }
 }
 
+pub fn actor_of(word: &[u8]) -> Option<u32>
+    ensures { result ≡ actor_in word.now }
+{
+    let number = number_up_to(64, word)?;
+    if number >= 1 { Some(number) } else { None }
+}
+
+pub fn place_of(word: &[u8]) -> Option<u64>
+    ensures { result ≡ place_in word.now }
+{
+    Some(u64::from(number_up_to(PLACE_LIMIT, word)?))
+}
+
+pub fn fill_length(word: &[u8]) -> Option<u32>
+    ensures { result ≡ fill_length_of word.now }
+{
+    number_up_to(FILL_LIMIT, word)
+}
+
+pub fn read_length(word: &[u8]) -> Option<u32>
+    ensures { result ≡ read_length_of word.now }
+{
+    number_up_to(READ_LIMIT, word)
+}
+
 fn are_printable(bytes: &[u8]) -> bool
     ensures { result ≡ list_all printable bytes.now }
 {
     bytes.iter().all(|byte| is_printable(*byte))
 }
 
+fn hex_octets(alloc: Global, word: &[u8]) -> Result<Option<Octets>, NoMemory>
+    ensures { IfOk result (λ bytes. bytes ≡ hex_value word.now) }
+{
+    match hex_bytes(alloc, word)? {
+        Some(bytes) => Ok(Some(Octets::of(bytes))),
+        None => Ok(None),
+    }
+}
+
+fn spelled_by(alloc: Global, word: &[u8]) -> Result<Option<Octets>, NoMemory>
+    ensures { IfOk result (λ bytes. bytes ≡ bytes_spelled word.now) }
+{
+    if word.len() < 2 || word[1] != b':' {
+        return Ok(None);
+    }
+    if word[0] == b't' && are_printable(&word[2..]) {
+        return Ok(Some(Octets::of(Vec::from_slice(alloc, &word[2..])?)));
+    }
+    if word[0] == b'x' {
+        return hex_octets(alloc, &word[2..]);
+    }
+    Ok(None)
+}
+
 pub fn bytes_of(alloc: Global, word: &[u8]) -> Result<Option<Octets>, NoMemory>
     ensures { IfOk result (λ bytes. bytes ≡ bytes_in word.now) }
 {
-    if word.len() < 2 || word[0] != b't' || word[1] != b':' || !are_printable(&word[2..]) {
-        return Ok(None);
+    match spelled_by(alloc, word)? {
+        Some(bytes) if bytes.items().len() <= WRITE_LIMIT => Ok(Some(bytes)),
+        _ => Ok(None),
     }
-    Ok(Some(Octets::of(Vec::from_slice(alloc, &word[2..])?)))
+}
+
+fn single(bytes: &[u8]) -> Option<u8>
+    ensures { result ≡ single_byte bytes.now }
+{
+    match bytes {
+        [byte] => Some(*byte),
+        _ => None,
+    }
+}
+
+pub fn byte_of(alloc: Global, word: &[u8]) -> Result<Option<u8>, NoMemory>
+    ensures { IfOk result (λ byte. byte ≡ byte_in word.now) }
+{
+    match hex_octets(alloc, word)? {
+        Some(bytes) => Ok(single(bytes.items())),
+        None => Ok(None),
+    }
 }
 
 pub fn letter_of(word: &[u8]) -> Option<u8>
@@ -97,6 +150,18 @@ pub fn letter_of(word: &[u8]) -> Option<u8>
 {
     if word.len() == 1 && word[0] >= b'a' && word[0] <= b'z' {
         Some(word[0])
+    } else {
+        None
+    }
+}
+
+pub fn switch_of(word: &[u8]) -> Option<bool>
+    ensures { result ≡ switch_in word.now }
+{
+    if is_text(word, b"on") {
+        Some(true)
+    } else if is_text(word, b"off") {
+        Some(false)
     } else {
         None
     }

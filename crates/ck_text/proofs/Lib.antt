@@ -1,3 +1,4 @@
 pub mod WordsLemmas
 pub mod DecimalLemmas
 pub mod HexadecimalLemmas
+pub mod AppendLemmas

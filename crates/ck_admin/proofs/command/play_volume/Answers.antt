@@ -4,6 +4,7 @@ use Rattle.ck_model.specs.History.{call_at}
 use Rattle.ck_report.specs.declared.status.Status.{Status}
 use Rattle.ck_report.specs.Transcript.{transcript_text}
 use Rattle.ck_script.specs.Numbered.{calls_in}
+use Rattle.ck_script.specs.Reading.{Parsed}
 use Rattle.ck_volume.specs.Volume.{disk_of}
 use Rattle.ck_admin.specs.Play.{lost_a_write}
 use Rattle.ck_admin.specs.Top.{EndsPlay, leaves_device}
@@ -17,10 +18,10 @@ returns-clause-ends g c = λ source left script.
     let new = g.K.Sink.means c.print-printed.new.out in
     let before : Meaning = g.D.Disk.means (disk_of c.args.volume) in
     let after : Meaning = g.D.Disk.means (disk_of c.play.new.volume) in
-    let lines = c.args.script.now.calls in
+    let read : Parsed = record { calls = c.args.script.now.calls; turns = c.args.script.now.turns } in
     let history = c.in-Ok.history.items in
     let lost : lost_a_write history ≡ c.is_broken-lost.result = sym (c.is_broken-lost.ensures ∙ c.in-Ok.ensures.broken) in
-    let ended = ends_play source left clock old new before after lines history script c.requires.actor c.requires.long c.in-Ok.ensures.play c.is_broken-lost.result lost c.print-printed.result
+    let ended = ends_play source left clock old new before after read history script c.requires.long c.in-Ok.ensures.play c.is_broken-lost.result lost c.print-printed.result
     (rw c.deref.ensures.value at c.print-printed.ensures.whole) (rw c.deref.ensures.value at c.print-printed.ensures.fault) in
     subst (λ disk. EndsPlay source left clock old new before (g.D.Disk.means disk) c.status_of.result) (sym c.close-2.ensures)
     (subst (λ (status : Status). EndsPlay source left clock old new before after status) (sym c.status_of.ensures) ended)

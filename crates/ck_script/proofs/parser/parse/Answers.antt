@@ -1,13 +1,15 @@
-use Rattle.std.proofs.Common.{subst, sym, ap, ◌∙◌, Ok}
+use Rattle.std.proofs.Common.{◌≡◌, subst, sym, ap, ◌∙◌, Ok, IsTrue}
+use Rattle.std.specs.List.{AllByRecursion}
 use Rattle.std.proofs.lemmas.Result.{err_from_is_err_and}
+use Rattle.ck_script.specs.declared.form.Form.TheVariants.{Called}
+use Rattle.ck_script.specs.Built.{is_built}
+use Rattle.ck_script.specs.Limits.{IsWithinLimits}
 use Rattle.ck_script.specs.Numbered.{IsNumbered}
-use Rattle.ck_script.specs.Steps.{IsFaultOf, calls_of}
-use Rattle.ck_script.proofs.OrderLemmas.{numbered_in_order}
+use Rattle.ck_script.specs.Reading.{Parsed, read_script}
+use Rattle.ck_script.specs.Steps.{IsFaultOf}
+use Rattle.ck_script.proofs.KeepsLemmas.{IsRead, script_is_read, read_within}
 use Rattle.ck_script.proofs.ReadingLemmas.{read_script-is}
 use Rattle.ck_script.proofs.parser.parse.Goals as goal
-
-pub invariant_of-result : goal.invariant_of-result
-invariant_of-result c = record { numbered = subst IsNumbered (sym c.of.ensures) (numbered_in_order _ c.into_lines.ensures.order) }
 
 pub returns-in_err-tally-clause-refused : goal.returns-in_err-tally-clause-refused
 returns-in_err-tally-clause-refused c =
@@ -15,7 +17,20 @@ returns-in_err-tally-clause-refused c =
     let same = read_script-is c.args.bytes.now c.within_limit.result.now c.long_line.result c.long_line.ensures c.within_limit.ensures.text in
     rw (p.1, p.2) (subst (λ outcome. IsFaultOf outcome c.in_err-tally.field-0.0) (sym same) c.in_err-tally.ensures.err)
 
-pub returns-clause-calls : goal.returns-clause-calls
-returns-clause-calls c =
-    let same = read_script-is c.args.bytes.now c.within_limit.result.now c.long_line.result c.long_line.ensures c.within_limit.ensures.text in
-    same ∙ c.in_ok-tally.ensures.calls ∙ ap (λ lines. Ok (calls_of lines)) (sym c.into_lines.ensures.lines ∙ sym c.of.ensures)
+pub invariant_of-result : goal.invariant_of-result
+invariant_of-result c =
+    let tally : Parsed = c.in_ok-tally.tally in
+    let read : read_script c.args.bytes.now ≡ Ok tally =
+    read_script-is c.args.bytes.now c.within_limit.result.now c.long_line.result c.long_line.ensures c.within_limit.ensures.text ∙ c.in_ok-tally.ensures.read in
+    let is : IsRead tally = script_is_read c.args.bytes.now tally read in
+    let calls = sym (c.of.ensures ∙ c.into_parts-lines.ensures.calls) in
+    record { numbered = subst IsNumbered calls is.numbered; within = subst IsWithinLimits calls (read_within tally is) }
+
+pub returns-clause-built : goal.returns-clause-built
+returns-clause-built c =
+    let tally : Parsed = c.in_ok-tally.tally in
+    let read : read_script c.args.bytes.now ≡ Ok tally =
+    read_script-is c.args.bytes.now c.within_limit.result.now c.long_line.result c.long_line.ensures c.within_limit.ensures.text ∙ c.in_ok-tally.ensures.read in
+    let is : IsRead tally = script_is_read c.args.bytes.now tally read in
+    let calls = sym (c.of.ensures ∙ c.into_parts-lines.ensures.calls) in
+    subst (AllByRecursion (λ line. IsTrue (is_built (Called line.actor line.call)))) calls is.built

@@ -1,12 +1,11 @@
-use Rattle.std.proofs.Common.{◌≡◌, ◌+◌, ◌-◌, ◌≤◌, [], length, drop}
+use Rattle.std.proofs.Common.{◌≡◌, ◌+◌, ◌-◌, ◌≤◌, length, drop}
 use Rattle.std.specs.Str.Lines.{lines as lines_of}
-use Rattle.ck_script.specs.Reading.{read_lines}
-use Rattle.ck_script.specs.Steps.{calls_of}
+use Rattle.ck_script.specs.Reading.{nothing_read, read_lines}
 use Rattle.ck_script.proofs.parser.read_text.Given as goal
 
 abbrev pub invariant-loop-at : goal.invariant-loop-at
 invariant-loop-at l = record {
-  read : read_lines l.long l.number (calls_of l.tally) (lines_of (drop l.at l.text)) ≡ read_lines l.long 1 [] (lines_of l.text);
+  read : read_lines l.long l.number l.tally (lines_of (drop l.at l.text)) ≡ read_lines l.long 1 nothing_read (lines_of l.text);
   few : l.number ≤ l.at + 1;
 }
 

@@ -1,0 +1,6 @@
+use Rattle.std.proofs.Common.{drop}
+use Rattle.ck_report.proofs.ListingLemmas.{IsBegun}
+use Rattle.ck_report.proofs.list.listing.Given as goal
+
+abbrev pub invariant-loop-line : goal.invariant-loop-line
+invariant-loop-line l = IsBegun l.lines l.text.items (drop l.line-index l.lines)
