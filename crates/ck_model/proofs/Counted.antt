@@ -1,7 +1,7 @@
 -- A table whose checkpoints are all live has as many records as its world takes, and names as many data blocks where no more are left to drop.
 use Rattle.std.proofs.Common.{◌≡◌, ◌≢◌, ℕ, ◌+◌, ◌<◌, ◌≤◌, Bool, true, false, not, cond, T, ◌&&◌, ◌||◌, IsSome, IsSomeAnd, is_some, if◌then◌else◌, List, [], ◌∷◌, ◌++◌, map as list_map, filter, length, Option, Some, None, nat_lt, nat_le, nat_eq, refl, sym, ap, subst, ◌∙◌, ◌⊎◌, inl, inr, arith}
 use Rattle.std.specs.Bool.{⊤}
-use Rattle.std.specs.Ordering.{nat_cmp, is_eq, eq_by_cmp, is_lt}
+use Rattle.std.specs.Ordering.{nat_cmp, is_lt}
 use Rattle.std.specs.Option.{option_or, option_map, option_map_or}
 use Rattle.std.specs.List.{list_any, AllByRecursion}
 use Rattle.std.specs.FinMap.{nat_cmp-IsAntisymmetric, is_sorted, entries_sorted, find}
@@ -19,22 +19,22 @@ use Rattle.ck_model.specs.declared.held.Small.TheVariants.{To, File, Dir}
 use Rattle.ck_model.specs.declared.checkpoint.Fileset.{Fileset}
 use Rattle.ck_model.specs.declared.checkpoint.Kind.{Kind}
 use Rattle.ck_model.specs.declared.checkpoint.Kind.TheVariants.{Keeping, Nodata}
-use Rattle.ck_model.specs.Key.{key_cmp, entry_cmp, key_cmp_total, key_cmp_exact, entry_cmp_total, entry_cmp_exact, is_block}
+use Rattle.ck_model.specs.Key.{key_cmp, key_cmp_total, key_cmp_exact, entry_cmp_total, entry_cmp_exact, is_block}
 use Rattle.ck_model.specs.Held.{BelongsTo}
 use Rattle.ck_model.specs.Cells.{Cells, differs, differences}
-use Rattle.ck_model.specs.World.{World, Checkpoint, Mounts, keeps_files, shown_by}
+use Rattle.ck_model.specs.World.{Checkpoint, Mounts, keeps_files, shown_by}
 use Rattle.ck_model.specs.Space.{next_cells, difference_count, records_in, block_count, own_block_count, held_by, held}
 use Rattle.ck_model.specs.Table.{Table, IsTable, column, newer, record_count}
 use Rattle.ck_model.specs.Chain.{first_entry, present, value_of, value_at, is_live, is_gone, is_live_data, keeps_data}
-use Rattle.ck_model.specs.Rules.{IsOrderly, IsSound, IsOwn, IsNeeded, first_holder, stamp_in}
-use Rattle.ck_model.specs.Values.{Store, Values, cell_on, cells_on}
-use Rattle.ck_model.specs.Standing.{values_of, checkpoint_on, live_filesets, checkpoints_on, world_on, blocks_in, blocks_of, extents_of, extent_count}
+use Rattle.ck_model.specs.Rules.{IsSound, IsOwn, first_holder, stamp_in}
+use Rattle.ck_model.specs.Values.{Store, cell_on, cells_on}
+use Rattle.ck_model.specs.Standing.{values_of, checkpoint_on, live_filesets, checkpoints_on, world_on, blocks_in, blocks_of, extent_count}
 use Rattle.ck_model.proofs.CellsLemmas.{get-marked, differs-mark_of, differs-itself, contains_key-differences}
 use Rattle.ck_model.proofs.Differences.{differs_from_mark}
 use Rattle.ck_model.proofs.Sizes.{len_same_keys, len-retain_keys, contains_key-retain_keys}
 use Rattle.ck_model.proofs.ValuesOf.{get-values_of, get-cells_on}
-use Rattle.ck_model.proofs.Rows.{head_of, row, row_of, find-row_of, is_sorted-row_of, total, times, total-rows}
-use Rattle.ck_model.proofs.Filesets.{Follow, follow_newer, not_below, all_found, times-none, times-once}
+use Rattle.ck_model.proofs.Rows.{head_of, row_of, find-row_of, is_sorted-row_of, total, times, total-rows}
+use Rattle.ck_model.proofs.Filesets.{Follow, follow_newer, all_found, times-none, times-once}
 
 -- no checkpoint is gone
 abbrev pub NoneGone : Table → Type 0
@@ -86,7 +86,7 @@ module _ (t : Table) (lawful : IsTable t) (sound : IsSound t) where
       ] refl
 
   home_once : (fs : ℕ) → (fs ≡ 0) ⊎ IsSome (map.get t.filesets fs) → times fs (0 ∷ map.keys t.filesets) ≡ 1
-  home_once fs (inl zero) = 
+  home_once fs (inl zero) =
       let none = times-none 0 (map.entries t.filesets) no_zero in
       ap (λ g. times g (0 ∷ map.keys t.filesets)) zero ∙ omega (arith, none)
   home_once fs (inr some) =
@@ -320,7 +320,7 @@ module _ (t : Table) (lawful : IsTable t) (sound : IsSound t) (none : NoneGone t
       let cells = (checkpoint_on store t e.0 e.1).cells in
       let next = next_cells (cells_on store (values_of t 0)) (checkpoints_of store t es) in
       let here : total (λ x. 1) (row_of t e.0) ≡ map.len (differences cells next) =
-          row_counts t e.0 (λ _. 1) (λ _. true) (differences cells next) (λ key h has. refl) (λ q. contains_key-differences cells next q ∙ differs_where store e es stand q) in
+      row_counts t e.0 (λ _. 1) (λ _. true) (differences cells next) (λ key h has. refl) (λ q. contains_key-differences cells next q ∙ differs_where store e es stand q) in
       λ i. here i + differences_are store es stand.1 i
 
   primary_held : (store : Store) (q : Key) → map.contains_key (cells_on store (values_of t 0)) q ≡ is_some (column t q 0)
@@ -361,7 +361,7 @@ records_are store mounts t lawful sound none =
     let stand = all_placed t lawful in
     let live : checkpoints_on store t ≡ checkpoints_of store t filesets = ap (checkpoints_of store t) (live_all t lawful sound none) in
     let primary : total (λ x. 1) (row_of t 0) ≡ map.len (cells_on store (values_of t 0)) =
-        row_counts t 0 (λ _. 1) (λ _. true) (cells_on store (values_of t 0)) (λ key h has. refl) (primary_held t lawful sound none store) in
+    row_counts t 0 (λ _. 1) (λ _. true) (cells_on store (values_of t 0)) (λ key h has. refl) (primary_held t lawful sound none store) in
     let rest = differences_are t lawful sound none store filesets stand in
     let rows = all_rows t lawful sound (λ _. 1) in
     let entries : map.len t.entries ≡ total (λ e. 1) (map.entries t.entries) = map.len-entries t.entries ∙ sym (total_ones (map.entries t.entries)) in
@@ -462,11 +462,12 @@ keep_upto older [] s = tt
 keep_upto older (e ∷ es) s =
     let parts = head_of (below_all nat_cmp e.0 es) (is_sorted nat_cmp es) s in
     let keep = keeps_files e.1.kind in
-    let self : nat_le e.0 e.0 ≡ true = grind (arith, nat_tests) in
-    (ap (λ b. older || (b && keep || any_upto e.0 es)) self ∙ ap (λ b. older || (keep || b)) (none_upto e.0 es parts.0) ∙ ap (λ b. older || b) (or_false keep),
-    keep_alike (λ id. (older || keep) || any_upto id es) (λ id. older || any_upto id (e ∷ es)) (older || keep) e.0 es parts.0
-    (λ id less. let upto : nat_le e.0 id ≡ true = grind (arith, nat_tests) in ap (λ b. older || (b && keep || any_upto id es)) upto ∙ or_assoc older keep (any_upto id es))
-    (keep_upto (older || keep) es parts.1))
+    let self : nat_le e.0 e.0 ≡ true = grind (arith, nat_tests) in (
+      ap (λ b. older || (b && keep || any_upto e.0 es)) self ∙ ap (λ b. older || (keep || b)) (none_upto e.0 es parts.0) ∙ ap (λ b. older || b) (or_false keep),
+      keep_alike (λ id. (older || keep) || any_upto id es) (λ id. older || any_upto id (e ∷ es)) (older || keep) e.0 es parts.0
+          (λ id less. let upto : nat_le e.0 id ≡ true = grind (arith, nat_tests) in ap (λ b. older || (b && keep || any_upto id es)) upto ∙ or_assoc older keep (any_upto id es))
+          (keep_upto (older || keep) es parts.1),
+    )
 
 module _ (t : Table) (lawful : IsTable t) (sound : IsSound t) (none : NoneGone t) where
   all_newer : (es : List (ℕ × Fileset)) → ArePlaced t es → filter (λ id. nat_lt 0 id) (list_map (λ e. e.0) es) ≡ list_map (λ (e : ℕ × Fileset). e.0) es
@@ -507,6 +508,7 @@ module _ (t : Table) (lawful : IsTable t) (sound : IsSound t) (none : NoneGone t
       and_true : (b : Bool) → (b && true) ≡ b
       and_true true = refl
       and_true false = refl
+
       own_block : (q : Key) (h : Held) → BelongsTo q h → IsOwn h → (is_block q && is_some (read_on store (Some h))) ≡ (is_extent h && true)
       own_block q h belongs own =
           ap (λ b. b && is_some (read_on store (Some h))) (sym (and_true (is_block q)))
@@ -548,10 +550,10 @@ module _ (t : Table) (lawful : IsTable t) (sound : IsSound t) (none : NoneGone t
   blocks_from store stripped older (e ∷ es) stand keep =
       let own = own_block_count (checkpoint_on store t e.0 e.1).cells (next_cells (cells_on store (values_of t 0)) (checkpoints_of store t es)) in
       let here : total (λ x. named_count x.1) (row_of t e.0) ≡ (if older || keeps_files e.1.kind then own else 0) =
-          elim (older || keeps_files e.1.kind) as (λ b. keeps_data t e.0 ≡ b → total (λ x. named_count x.1) (row_of t e.0) ≡ (if b then own else 0)) [
-            | true ↦ λ keeps. kept_blocks store e es stand keeps
-            | false ↦ λ keeps. no_blocks e.0 stand.0.some stripped keeps
-          ] keep.0 in
+      elim (older || keeps_files e.1.kind) as (λ b. keeps_data t e.0 ≡ b → total (λ x. named_count x.1) (row_of t e.0) ≡ (if b then own else 0)) [
+        | true ↦ λ keeps. kept_blocks store e es stand keeps
+        | false ↦ λ keeps. no_blocks e.0 stand.0.some stripped keeps
+      ] keep.0 in
       λ i. here i + blocks_from store stripped (older || keeps_files e.1.kind) es stand.1 keep.1 i
 
 length-joined : {X : Type 0} (xs ys : List X) → length (xs ++ ys) ≡ length xs + length ys

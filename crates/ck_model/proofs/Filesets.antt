@@ -1,5 +1,5 @@
 -- The checkpoints of a table in their order: of each, the newer ones, and how often an id stands among them.
-use Rattle.std.proofs.Common.{◌≡◌, ◌≢◌, ℕ, ◌+◌, ◌<◌, ◌≤◌, Bool, true, false, cond, T, ◌&&◌, IsSome, is_some, if◌then◌else◌, List, [], ◌∷◌, map as list_map, filter, Option, Some, None, nat_lt, nat_eq, refl, sym, ap, subst, ◌∙◌, ◌⊎◌, inl, inr, arith}
+use Rattle.std.proofs.Common.{◌≡◌, ℕ, ◌+◌, ◌<◌, ◌≤◌, Bool, true, false, cond, T, ◌&&◌, IsSome, is_some, if◌then◌else◌, List, [], ◌∷◌, map as list_map, filter, Option, Some, None, nat_lt, nat_eq, refl, sym, ap, subst, ◌∙◌, ◌⊎◌, inl, inr, arith}
 use Rattle.std.specs.Bool.{⊤}
 use Rattle.std.specs.declared.cmp.Ordering.{Ordering}
 use Rattle.std.specs.declared.cmp.Ordering.TheVariants.{Less, Equal, Greater}
@@ -13,8 +13,6 @@ use Rattle.std.proofs.lemmas.Bool.Decides.{nat_tests}
 use Rattle.std.proofs.lemmas.Cmp.{tied_itself, nat_cmp_total}
 use mathlib.Core.Bool.{false≢true}
 use Rattle.ck_model.specs.Table.{Table, newer}
-use Rattle.ck_model.specs.declared.checkpoint.Fileset.{Fileset}
-use Rattle.ck_model.specs.Table.{IsTable}
 use Rattle.ck_model.proofs.Rows.{head_of, times}
 
 -- the ids of these entries above a number
@@ -49,9 +47,10 @@ follow_all : {X : Type 0} (es : List (ℕ × X)) → T (is_sorted nat_cmp es) �
 follow_all [] s = tt
 follow_all (e ∷ es) s =
     let parts = head_of (below_all nat_cmp e.0 es) (is_sorted nat_cmp es) s in
-    let self : nat_lt e.0 e.0 ≡ false = grind (arith, nat_tests) in
-    (ap (λ b. cond b (e.0 ∷ above e.0 es) (above e.0 es)) self ∙ all_above e.0 e.0 es parts.0 (omega arith),
-    follow_behind e es es parts.0 (follow_all es parts.1))
+    let self : nat_lt e.0 e.0 ≡ false = grind (arith, nat_tests) in (
+      ap (λ b. cond b (e.0 ∷ above e.0 es) (above e.0 es)) self ∙ all_above e.0 e.0 es parts.0 (omega arith),
+      follow_behind e es es parts.0 (follow_all es parts.1),
+    )
 
 pub follow_newer : (t : Table) → Follow (newer t) (map.entries t.filesets)
 follow_newer t = follow_all (map.entries t.filesets) (entries_sorted t.filesets)
@@ -90,9 +89,10 @@ module _ {K X : Type 0} {R : K → K → Ordering} (total : IsTotalOrder R) (exa
   pub all_found : (P : K × X → Type 0) (es : List (K × X)) → T (is_sorted R es) → ((k : K) (v : X) → find R k es ≡ Some v → P (k, v)) → AllByRecursion P es
   all_found P [] s h = tt
   all_found P (e ∷ es) s h =
-      let parts = head_of (below_all R e.0 es) (is_sorted R es) s in
-      (h e.0 e.1 (ap (λ r. cond (is_eq r) (Some e.1) (find R e.0 es)) (tied_itself total e.0)),
-      all_found P es parts.1 (λ k v found. h k v (found_behind e es k v parts.0 found)))
+      let parts = head_of (below_all R e.0 es) (is_sorted R es) s in (
+        h e.0 e.1 (ap (λ r. cond (is_eq r) (Some e.1) (find R e.0 es)) (tied_itself total e.0)),
+        all_found P es parts.1 (λ k v found. h k v (found_behind e es k v parts.0 found)),
+      )
 
 -- ---- how often an id stands among them
 

@@ -1,5 +1,5 @@
 -- The entries of one fileset as a list of their own, and what is counted over all entries as what is counted over these lists.
-use Rattle.std.proofs.Common.{◌≡◌, ℕ, ◌+◌, Bool, true, false, cond, ◌&&◌, T, Option, Some, None, List, [], ◌∷◌, if◌then◌else◌, nat_eq, refl, sym, ap, subst, ◌∙◌, arith}
+use Rattle.std.proofs.Common.{◌≡◌, ℕ, ◌+◌, Bool, true, false, cond, ◌&&◌, T, Some, List, [], ◌∷◌, if◌then◌else◌, nat_eq, refl, sym, ap, subst, ◌∙◌, arith}
 use Rattle.std.specs.declared.cmp.Ordering.TheVariants.{Less, Equal, Greater}
 use Rattle.std.specs.Ordering.{nat_cmp, is_eq, is_lt, ordering_then, eq_by_cmp}
 use Rattle.std.specs.List.{AllByRecursion}
@@ -101,8 +101,8 @@ total-rows_cons : {X : Type 0} (weight : X → ℕ) (e : (ℕ × Key) × X) (es 
 total-rows_cons weight e es [] none = refl
 total-rows_cons weight e es (id ∷ ids) none =
     elim (nat_eq e.0.0 id) as (λ b. (if b then 1 else 0) + times e.0.0 ids ≡ 0
-        → total (λ x. weight x.1) (if b then (e.0.1, e.1) ∷ row id es else row id es) + total (λ fs. total (λ x. weight x.1) (row fs (e ∷ es))) ids
-        ≡ total (λ x. weight x.1) (row id es) + total (λ fs. total (λ x. weight x.1) (row fs es)) ids) [
+    → total (λ x. weight x.1) (if b then (e.0.1, e.1) ∷ row id es else row id es) + total (λ fs. total (λ x. weight x.1) (row fs (e ∷ es))) ids
+    ≡ total (λ x. weight x.1) (row id es) + total (λ fs. total (λ x. weight x.1) (row fs es)) ids) [
       | true ↦ λ h. omega (arith, h)
       | false ↦ λ h. ap (λ n. total (λ x. weight x.1) (row id es) + n) (total-rows_cons weight e es ids (omega (arith, h)))
     ] none
@@ -111,8 +111,8 @@ total-rows_once : {X : Type 0} (weight : X → ℕ) (e : (ℕ × Key) × X) (es 
 total-rows_once weight e es [] once = omega (arith, once)
 total-rows_once weight e es (id ∷ ids) once =
     elim (nat_eq e.0.0 id) as (λ b. (if b then 1 else 0) + times e.0.0 ids ≡ 1
-        → total (λ x. weight x.1) (if b then (e.0.1, e.1) ∷ row id es else row id es) + total (λ fs. total (λ x. weight x.1) (row fs (e ∷ es))) ids
-        ≡ weight e.1 + (total (λ x. weight x.1) (row id es) + total (λ fs. total (λ x. weight x.1) (row fs es)) ids)) [
+    → total (λ x. weight x.1) (if b then (e.0.1, e.1) ∷ row id es else row id es) + total (λ fs. total (λ x. weight x.1) (row fs (e ∷ es))) ids
+    ≡ weight e.1 + (total (λ x. weight x.1) (row id es) + total (λ fs. total (λ x. weight x.1) (row fs es)) ids)) [
       | true ↦ λ h. omega (arith, total-rows_cons weight e es ids (omega (arith, h)))
       | false ↦ λ h. let rest = total-rows_once weight e es ids (omega (arith, h)) in omega (arith, rest)
     ] once

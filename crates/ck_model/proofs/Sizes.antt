@@ -1,8 +1,8 @@
 -- How many entries finite maps have: some of a map's, two maps with the same keys, and a map that was changed.
-use Rattle.std.proofs.Common.{◌≡◌, ℕ, ◌+◌, ◌-◌, ◌≤◌, Bool, true, false, cond, not, ◌&&◌, T, Option, Some, None, is_some, List, [], ◌∷◌, length, filter, map as list_map, refl, sym, ap, subst, ◌∙◌, arith}
+use Rattle.std.proofs.Common.{◌≡◌, ◌+◌, ◌-◌, ◌≤◌, Bool, true, false, cond, not, ◌&&◌, T, Option, Some, None, is_some, List, [], ◌∷◌, length, filter, map as list_map, refl, sym, ap, subst, ◌∙◌, arith}
 use Rattle.std.specs.declared.cmp.Ordering.{Ordering}
 use Rattle.std.specs.declared.cmp.Ordering.TheVariants.{Less, Equal, Greater}
-use Rattle.std.specs.Ordering.{eq_by_cmp, is_lt, is_eq}
+use Rattle.std.specs.Ordering.{is_lt, is_eq}
 use Rattle.std.specs.Cmp.{IsTotalOrder}
 use Rattle.std.specs.FinMap.{IsAntisymmetric, find, is_sorted, entries_sorted}
 use Rattle.std.specs.FinMap.Entries.{below_all, is_some-find, is_sorted-where_key, find-where_key}

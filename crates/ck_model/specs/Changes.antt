@@ -1,12 +1,12 @@
 -- What the calls that change files make of the primary map. Each cell that is put has the same new stamp.
-use Rattle.std.specs.Prelude.{ℕ, ◌+◌, ◌-◌, ◌*◌, ◌/◌, ◌%◌, ◌&&◌, Bool, not, List, [], ◌∷◌, length, Option, Some, None, if◌then◌else◌, map as list_map, nat_eq, nat_le, nat_lt, slice_index}
+use Rattle.std.specs.Prelude.{ℕ, ◌+◌, ◌-◌, ◌*◌, ◌/◌, ◌%◌, ◌&&◌, not, List, [], ◌∷◌, length, Some, if◌then◌else◌, map as list_map, nat_eq, nat_le, nat_lt, slice_index}
 use Rattle.std.specs.List.{range_with_len}
 use Rattle.std.specs.FinMap as map
 use Rattle.ck_model.specs.declared.key.Key.{Key}
 use Rattle.ck_model.specs.declared.key.Key.TheVariants.{Node, Block}
 use Rattle.ck_model.specs.declared.cell.Cell.{Cell}
 use Rattle.ck_model.specs.declared.cell.Payload.{Payload}
-use Rattle.ck_model.specs.declared.cell.Payload.TheVariants.{To, File, Dir, Bytes}
+use Rattle.ck_model.specs.declared.cell.Payload.TheVariants.{To, File, Bytes}
 use Rattle.ck_model.specs.Key.{is_of, is_past}
 use Rattle.ck_model.specs.Cells.{Cells, size_at, with_cells}
 use Rattle.ck_model.specs.Reading.{block_byte}

@@ -1,5 +1,5 @@
 -- The calls that change files: what they refuse, in order, and the world after them where there is room.
-use Rattle.std.specs.Prelude.{ℕ, ◌+◌, ◌^◌, ◌&&◌, ◌||◌, Bool, not, List, [], ◌∷◌, length, Result, Ok, Err, nat_eq, nat_lt, replicate}
+use Rattle.std.specs.Prelude.{ℕ, ◌+◌, ◌^◌, ◌&&◌, ◌||◌, Bool, List, length, Result, Ok, nat_eq, nat_lt}
 use Rattle.std.specs.List.{list_any}
 use Rattle.std.specs.FinMap as map
 use Rattle.ck_model.specs.declared.cell.Payload.{Payload}

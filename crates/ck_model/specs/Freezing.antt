@@ -1,5 +1,5 @@
 -- The calls on checkpoints and mounts: what they refuse, in order, and the world after them.
-use Rattle.std.specs.Prelude.{ℕ, ◌+◌, Bool, true, false, not, List, [], ◌∷◌, ◌++◌, length, Option, Some, None, Result, Ok, Err, nat_eq, nat_le, nat_lt, if◌then◌else◌, find, map as list_map, take_while}
+use Rattle.std.specs.Prelude.{ℕ, ◌+◌, Bool, not, List, [], ◌∷◌, ◌++◌, length, Result, Ok, nat_eq, nat_le, if◌then◌else◌, find, map as list_map, take_while}
 use Rattle.std.specs.List.{list_any}
 use Rattle.std.specs.Option.{ok_or}
 use Rattle.std.specs.FinMap as map
@@ -8,8 +8,8 @@ use Rattle.ck_model.specs.declared.checkpoint.Kind.TheVariants.{Keeping, Nodata}
 use Rattle.ck_model.specs.declared.reply.Reply.{Reply}
 use Rattle.ck_model.specs.declared.reply.Reply.TheVariants.{Exists, TooMany, Spent, NoCkpt, InUse, NotMounted, Gone, NoData, NotData}
 use Rattle.ck_model.specs.Refusals.{and_then, refuse_if}
-use Rattle.ck_model.specs.Cells.{Cells, marked}
-use Rattle.ck_model.specs.World.{World, Checkpoint, Mounts, keeps_files, is_named, has_id, shown_by, without_checkpoint}
+use Rattle.ck_model.specs.Cells.{marked}
+use Rattle.ck_model.specs.World.{World, Checkpoint, keeps_files, is_named, has_id, shown_by, without_checkpoint}
 
 abbrev pub kind_of : Bool → Kind
 kind_of nodata = if nodata then Nodata else Keeping

@@ -1,13 +1,12 @@
 -- Histories: which entries are legal after one another, the world after them, and whose calls they answer.
-use Rattle.std.specs.Prelude.{◌≡◌, ◌≤◌, ◌<◌, ⊤, ℕ, zero, suc, ◌+◌, Bool, true, false, List, [], ◌∷◌, length, Option, Some, None, MatchBool, MatchOption, IsSomeAnd, nat_eq, nat_le, if◌then◌else◌, slice_get, find}
+use Rattle.std.specs.Prelude.{◌≡◌, ◌≤◌, ⊤, ℕ, zero, suc, ◌+◌, Bool, false, List, [], ◌∷◌, length, Option, Some, None, MatchBool, MatchOption, IsSomeAnd, nat_eq, nat_le, if◌then◌else◌, slice_get}
 use Rattle.std.specs.List.{filter_map, range_with_len}
-use Rattle.std.specs.Option.{option_map, option_or, option_map_or}
+use Rattle.std.specs.Option.{option_or, option_map_or}
 use Rattle.ck_model.specs.declared.call.Call.{Call}
 use Rattle.ck_model.specs.declared.entry.Entry.{Entry}
 use Rattle.ck_model.specs.declared.reply.Reply.{Reply}
 use Rattle.ck_model.specs.declared.reply.Reply.TheVariants.{Done, Delayed, Bytes, Names, StatFile, StatDir, Created, Listing, Info, Streamed, NotFound, NotDir, IsDir, Exists, NotEmpty, Root, TooBig, NoCkpt, TooMany, Spent, InUse, NotMounted, Gone, NoData, NotNewer, NotData, NoSpace, ReadFault, WriteFault, Broken, NoMemory}
-use Rattle.ck_model.specs.Cells.{Cells}
-use Rattle.ck_model.specs.World.{World, Checkpoint, has_id, shown_by}
+use Rattle.ck_model.specs.World.{World}
 use Rattle.ck_model.specs.Space.{without_picks}
 use Rattle.ck_model.specs.Streams.{Texts}
 use Rattle.ck_model.specs.Step.{Outcome, step}

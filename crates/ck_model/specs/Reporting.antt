@@ -1,7 +1,5 @@
 -- The calls that tell something and change nothing: what they refuse, in order, and their replies.
-use Rattle.std.specs.Prelude.{ℕ, Bool, true, false, ◌||◌, List, [], ◌∷◌, length, Result, Ok, Err, nat_lt, if◌then◌else◌}
-use Rattle.std.specs.FinMap as map
-use Rattle.ck_model.specs.declared.key.Key.TheVariants.{Node}
+use Rattle.std.specs.Prelude.{ℕ, Bool, false, ◌||◌, List, [], ◌∷◌, length, Result, Ok, nat_lt, if◌then◌else◌}
 use Rattle.ck_model.specs.declared.checkpoint.CkptLine.{CkptLine}
 use Rattle.ck_model.specs.declared.checkpoint.State.{State}
 use Rattle.ck_model.specs.declared.checkpoint.State.TheVariants as state

@@ -1,5 +1,5 @@
 -- From the root along the names of a path.
-use Rattle.std.specs.Prelude.{ℕ, ◌-◌, Bool, List, [], ◌∷◌, Result, Ok, Err, if◌then◌else◌, is_some, take, length, Option, Some, None}
+use Rattle.std.specs.Prelude.{ℕ, ◌-◌, List, [], ◌∷◌, Result, Ok, Err, if◌then◌else◌, take, length}
 use Rattle.std.specs.List.{slice_index_or}
 use Rattle.std.specs.Option.{ok_or}
 use Rattle.std.specs.FinMap as map

@@ -1,6 +1,5 @@
 -- The records of a table, their limits, and the one spelling that each of them has.
 use Rattle.std.specs.Prelude.{ℕ, ◌+◌, ⊤, List, Some, None, if◌then◌else◌}
-use Rattle.ck_model.specs.declared.checkpoint.Counters.{Counters}
 use Rattle.ck_model.specs.declared.checkpoint.Fileset.{Fileset}
 use Rattle.ck_model.specs.declared.checkpoint.Kind.{Kind}
 use Rattle.ck_model.specs.declared.checkpoint.Kind.TheVariants.{Keeping, Nodata}
