@@ -1,0 +1,14 @@
+-- The entries that slots and their order mean.
+use Rattle.std.specs.Prelude.{ℕ, List}
+use Rattle.ck_model.specs.declared.key.Key.{Key}
+use Rattle.ck_model.specs.declared.held.Held.{Held}
+use Rattle.ck_model.specs.Table.{Entries}
+use Rattle.ck_slots.specs.declared.entries.Entries.{Entries as Arrangement}
+use Rattle.ck_slots.specs.Arranged.{arranged, entries_of}
+
+-- as a list in their order
+abbrev pub listed_in : Arrangement → List ((ℕ × Key) × Held)
+listed_in e = arranged e.slots.items e.order.items
+
+abbrev pub entries_in : Arrangement → Entries
+entries_in e = entries_of e.slots.items e.order.items
