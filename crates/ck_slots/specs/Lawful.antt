@@ -9,7 +9,7 @@ use Rattle.ck_model.specs.declared.held.Small.TheVariants.{To, File, Dir}
 use Rattle.ck_model.specs.declared.checkpoint.Fileset.{Fileset}
 use Rattle.ck_model.specs.declared.checkpoint.Counters.{Counters}
 use Rattle.ck_model.specs.Held.{IsKey, BelongsTo}
-use Rattle.ck_model.specs.Table.{Table, IsTable, IsSized}
+use Rattle.ck_model.specs.Table.{Table, IsTable}
 use Rattle.ck_slots.specs.declared.entries.Entries.{Entries as Arrangement}
 use Rattle.ck_slots.specs.Entries.{entries_in}
 use Rattle.ck_slots.specs.Recorded.{filesets_of}
@@ -49,6 +49,3 @@ BelongsTo-prop (Block number index) (Mark stamp) = hlevel props
 
 pub IsTable-prop : (t : Table) → IsProp (IsTable t)
 IsTable-prop t = hlevel (IsKey-prop, BelongsTo-prop, props)
-
-pub IsSized-prop : (t : Table) → IsProp (IsSized t)
-IsSized-prop t = hlevel props

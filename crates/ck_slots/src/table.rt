@@ -73,7 +73,8 @@ impl Slots {
     /// The entry at this place in the order of filesets and keys.
     pub fn entry_at(&self, at: u32) -> (u32, Key, Held)
         requires { at < map.len (table_in self.now).entries }
-        ensures { slice_get (map.entries (table_in self.now).entries) at ≡ Some ((result.0, result.1), result.2) }
+        ensures { slice_get (map.entries (table_in self.now).entries) at
+            ≡ Some ((result.0, result.1), result.2) }
     {
         self.entries.at(at as usize)
     }

@@ -6,7 +6,6 @@ use Rattle.ck_model.specs.Key.{entry_cmp}
 use Rattle.ck_model.specs.Table.{IsTable, IsSized}
 use Rattle.ck_model.specs.Rules.{IsSound}
 use Rattle.ck_slots.specs.Formatted.{StandsForEmpty}
-use Rattle.ck_slots.proofs.ArrangedLemmas.{len-entries_of}
 use Rattle.ck_slots.proofs.FormattedLemmas.{table_of-root, IsTable-formatted, IsSized-formatted, IsSound-formatted, world_on-formatted}
 use Rattle.ck_slots.proofs.table.Slots.formatted.Goals as goal
 
@@ -14,7 +13,7 @@ pub put-requires : goal.put-requires
 put-requires c =
     let e = c.in_ok-entries.entries in
     let none = ap map.len c.in_ok-entries.ensures.entries ∙ len-empty entry_cmp Held in
-    inr (omega (arith, none, len-entries_of e.slots.items e.order.items e.sorted, c.in_ok-entries.ensures.limit, c.requires.some_records))
+    inr (omega (arith, none, c.in_ok-entries.ensures.limit, c.requires.some_records))
 
 pub invariant_of-result-clause-within_limits : goal.invariant_of-result-clause-within_limits
 invariant_of-result-clause-within_limits c =
