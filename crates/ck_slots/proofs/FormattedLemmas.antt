@@ -21,8 +21,8 @@ use Rattle.ck_model.specs.World.{root_cells}
 use Rattle.ck_model.specs.Values.{Store, cells_of, cells_on}
 use Rattle.ck_model.specs.Standing.{keys_of, with_value, valued, values_of, checkpoint_on, checkpoints_on, checkpoint_limit}
 use Rattle.ck_model.proofs.Places.{from_nothing}
-use Rattle.ck_slots.specs.declared.slot.Slot.{Slot}
-use Rattle.ck_slots.specs.Arranged.{entries_of}
+use Rattle.ck_slots.specs.declared.entries.Entries.{Entries as Arrangement}
+use Rattle.ck_slots.specs.Entries.{entries_in}
 use Rattle.ck_slots.specs.Recorded.{filesets_of}
 use Rattle.ck_slots.specs.Lawful.{table_of}
 use Rattle.ck_slots.specs.Formatted.{root, formatted_table, StandsForEmpty}
@@ -162,7 +162,7 @@ module _ (blocks records : ℕ) where
 pub formatted_is : (blocks records limit : ℕ) (es : Entries) (fs : Filesets) → es ≡ map.insert map.empty (0, Node 0) root → fs ≡ map.empty → limit ≡ records → ◌≡◌ {A = Table} (record { entries = es; filesets = fs; counters = record { stamp = 1; id = 1; number = 1 }; blocks = blocks; records = limit }) (formatted_table blocks records)
 formatted_is blocks records limit es fs p q r i = record { entries = p i; filesets = q i; counters = record { stamp = 1; id = 1; number = 1 }; blocks = blocks; records = r i }
 
--- slots that were empty, after the root was put
-pub table_of-root : (slots old_slots : List Slot) (order old_order : List ℕ) (files : List (ℕ × Fileset)) (blocks records limit old_limit : ℕ) → entries_of slots order ≡ map.insert (entries_of old_slots old_order) (0, Node 0) root → entries_of old_slots old_order ≡ map.empty → files ≡ [] → limit ≡ old_limit → old_limit ≡ records → table_of slots order files (record { stamp = 1; id = 1; number = 1 }) blocks limit ≡ formatted_table blocks records
-table_of-root slots old_slots order old_order files blocks records limit old_limit put bare none same is =
-    formatted_is blocks records limit (entries_of slots order) (filesets_of files) (put ∙ ap (λ es. map.insert es (0, Node 0) root) bare) (ap filesets_of none ∙ from_nothing) (same ∙ is)
+-- entries that were empty, after the root was put
+pub table_of-root : (old new : Arrangement) (files : List (ℕ × Fileset)) (blocks records : ℕ) → entries_in new ≡ map.insert (entries_in old) (0, Node 0) root → entries_in old ≡ map.empty → files ≡ [] → new.limit ≡ old.limit → old.limit ≡ records → table_of new files (record { stamp = 1; id = 1; number = 1 }) blocks ≡ formatted_table blocks records
+table_of-root old new files blocks records put bare none same is =
+    formatted_is blocks records new.limit (entries_in new) (filesets_of files) (put ∙ ap (λ es. map.insert es (0, Node 0) root) bare) (ap filesets_of none ∙ from_nothing) (same ∙ is)

@@ -1,4 +1,4 @@
--- A table as two lists in order, and that each of its laws holds in one way.
+-- The table of slots and checkpoints' records, and that each law of tables holds in one way.
 use Rattle.std.specs.Prelude.{ℕ, List}
 use Rattle.std.proofs.Props.{props}
 use Rattle.ck_model.specs.declared.key.Key.{Key}
@@ -9,19 +9,19 @@ use Rattle.ck_model.specs.declared.held.Small.TheVariants.{To, File, Dir}
 use Rattle.ck_model.specs.declared.checkpoint.Fileset.{Fileset}
 use Rattle.ck_model.specs.declared.checkpoint.Counters.{Counters}
 use Rattle.ck_model.specs.Held.{IsKey, BelongsTo}
-use Rattle.ck_model.specs.Table.{Table, IsTable, IsSized}
-use Rattle.ck_slots.specs.declared.slot.Slot.{Slot}
-use Rattle.ck_slots.specs.Arranged.{entries_of}
+use Rattle.ck_model.specs.Table.{Table, IsTable}
+use Rattle.ck_slots.specs.declared.entries.Entries.{Entries as Arrangement}
+use Rattle.ck_slots.specs.Entries.{entries_in}
 use Rattle.ck_slots.specs.Recorded.{filesets_of}
 
--- what slots in this order, and records of checkpoints, mean
-abbrev pub table_of : List Slot → List ℕ → List (ℕ × Fileset) → Counters → ℕ → ℕ → Table
-table_of slots order filesets counters blocks records = record {
-  entries = entries_of slots order;
+-- what slots in their order and the records of checkpoints mean
+abbrev pub table_of : Arrangement → List (ℕ × Fileset) → Counters → ℕ → Table
+table_of entries filesets counters blocks = record {
+  entries = entries_in entries;
   filesets = filesets_of filesets;
   counters = counters;
   blocks = blocks;
-  records = records;
+  records = entries.limit;
 }
 
 IsKey-prop : (key : Key) → IsProp (IsKey key)
@@ -49,6 +49,3 @@ BelongsTo-prop (Block number index) (Mark stamp) = hlevel props
 
 pub IsTable-prop : (t : Table) → IsProp (IsTable t)
 IsTable-prop t = hlevel (IsKey-prop, BelongsTo-prop, props)
-
-pub IsSized-prop : (t : Table) → IsProp (IsSized t)
-IsSized-prop t = hlevel props

@@ -1,5 +1,6 @@
 pub mod Arranged
 pub mod Cut
+pub mod Entries
 pub mod Following
 pub mod Recorded
 pub mod Lawful

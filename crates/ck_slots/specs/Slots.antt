@@ -4,4 +4,4 @@ use Rattle.ck_slots.specs.declared.table.Slots.{Slots}
 use Rattle.ck_slots.specs.Lawful.{table_of}
 
 abbrev pub table_in : Slots → Table
-table_in s = table_of s.entries.slots.items s.entries.order.items s.filesets.items s.counters s.blocks s.entries.limit
+table_in s = table_of s.entries s.filesets.items s.counters s.blocks

@@ -1,11 +1,12 @@
-ghost use Rattle.std.specs.Prelude.{◌≡◌, ◌∷◌, [], ◌+◌, ◌≤◌, ◌<◌, ◌⊎◌, true, Some, IsSome, IfOk, IfErr, MatchOption, ◌^◌, ℕ, length, EachIndex, slice_index, slice_get, slice_set, vec_len, vec_capacity};
+ghost use Rattle.std.specs.Prelude.{◌≡◌, ◌∷◌, [], ◌+◌, ◌≤◌, ◌<◌, ◌^◌, ◌⊎◌, ℕ, true, Some, length};
+ghost use Rattle.std.specs.Prelude.{IsSome, IfOk, IfErr, MatchOption, EachIndex};
+ghost use Rattle.std.specs.Prelude.{slice_index, slice_get, slice_set, vec_len, vec_capacity};
 ghost use Rattle.std.specs.Option.{option_copied};
 ghost use Rattle.std.specs.FinMap.{is_sorted};
 ghost use Rattle.std.specs.FinMap as map;
 ghost use Rattle.ck_model.specs.Key.{entry_cmp};
 ghost use Rattle.ck_model.specs.Ordered.{IsFoundAt, IsGapAt};
-ghost use Rattle.ck_slots.specs.Arranged.{arranged, entries_of, StandOnce, IsStored};
-ghost use Rattle.ck_slots.specs.Following.{keys_behind};
+ghost use Rattle.ck_slots.specs.Arranged.{arranged, StandOnce, IsStored};
 
 use crate::search::{next_key, search};
 use crate::slot::Slot;
@@ -39,10 +40,12 @@ fn overwrite(slots: &mut [Slot], number: u32, slot: Slot)
 
 // Into the slot that was freed last, or else into a new one.
 fn store(slots: &mut Vec<Slot>, free: &mut Vec<u32>, slot: Slot) -> u32
-    requires within { EachIndex free.old.items (λ k. slice_index free.old.items k < length slots.old.items) }
+    requires within { EachIndex free.old.items
+        (λ k. slice_index free.old.items k < length slots.old.items) }
     requires room { (free.old.items ≡ []) → vec_len slots.old < vec_capacity slots.old }
     requires few { vec_len slots.old < 2 ^ 32 }
-    ensures stored { IsStored slots.old.items free.old.items slots.new.items free.new.items result slot }
+    ensures stored { IsStored slots.old.items free.old.items slots.new.items free.new.items
+        result slot }
     ensures slots_capacity { vec_capacity slots.new ≡ vec_capacity slots.old }
     ensures free_capacity { vec_capacity free.new ≡ vec_capacity free.old }
 {
@@ -60,9 +63,11 @@ fn store(slots: &mut Vec<Slot>, free: &mut Vec<u32>, slot: Slot) -> u32
 }
 
 impl Entries {
+    ghost use Rattle.ck_slots.specs.Entries.{listed_in, entries_in, next_keys};
+
     pub fn new(alloc: Global, limit: u32) -> Result<Entries, NoMemory>
         requires { limit ≤ 262144 }
-        ensures entries { IfOk result (λ s. entries_of s.slots.items s.order.items ≡ map.empty) }
+        ensures entries { IfOk result (λ s. entries_in s ≡ map.empty) }
         ensures limit { IfOk result (λ s. s.limit ≡ limit) }
     {
         Ok(Entries {
@@ -74,29 +79,30 @@ impl Entries {
     }
 
     pub fn len(&self) -> usize
-        ensures { result ≡ map.len (entries_of self.now.slots.items self.now.order.items) }
+        ensures { result ≡ map.len (entries_in self.now) }
     {
         self.order.len()
     }
 
     /// The entry at this place in the order of filesets and keys.
     pub fn at(&self, at: usize) -> (u32, Key, Held)
-        requires { at < map.len (entries_of self.now.slots.items self.now.order.items) }
-        ensures { slice_get (map.entries (entries_of self.now.slots.items self.now.order.items)) at ≡ Some ((result.0, result.1), result.2) }
+        requires { at < map.len (entries_in self.now) }
+        ensures { slice_get (map.entries (entries_in self.now)) at
+            ≡ Some ((result.0, result.1), result.2) }
     {
         let slot = &self.slots[self.order[at] as usize];
         (slot.fileset, slot.key, slot.held)
     }
 
     fn find(&self, fileset: u32, key: &Key) -> Result<usize, usize>
-        ensures found { IfOk result (IsFoundAt entry_cmp (fileset, key.now) (arranged self.now.slots.items self.now.order.items)) }
-        ensures absent { IfErr result (IsGapAt entry_cmp (fileset, key.now) (arranged self.now.slots.items self.now.order.items)) }
+        ensures found { IfOk result (IsFoundAt entry_cmp (fileset, key.now) (listed_in self.now)) }
+        ensures absent { IfErr result (IsGapAt entry_cmp (fileset, key.now) (listed_in self.now)) }
     {
         search(&self.slots, &self.order, fileset, key)
     }
 
     pub fn get(&self, fileset: u32, key: &Key) -> Option<Held>
-        ensures { result ≡ map.get (entries_of self.now.slots.items self.now.order.items) (fileset, key.now) }
+        ensures { result ≡ map.get (entries_in self.now) (fileset, key.now) }
     {
         match self.find(fileset, key) {
             Ok(at) => Some(self.slots[self.order[at] as usize].held),
@@ -107,17 +113,18 @@ impl Entries {
     /// The least key after this one at which a fileset holds something.
     pub fn next(&self, fileset: u32, after: Option<&Key>) -> Option<Key>
         ensures { MatchOption result
-            (keys_behind (map.entries (entries_of self.now.slots.items self.now.order.items)) fileset (option_copied after.entry) ≡ [])
-            (λ key. keys_behind (map.entries (entries_of self.now.slots.items self.now.order.items)) fileset (option_copied after.entry)
-            ≡ key ∷ keys_behind (map.entries (entries_of self.now.slots.items self.now.order.items)) fileset (Some key)) }
+            (next_keys self.now fileset (option_copied after.entry) ≡ [])
+            (λ key. next_keys self.now fileset (option_copied after.entry)
+            ≡ key ∷ next_keys self.now fileset (Some key)) }
     {
         next_key(&self.slots, &self.order, fileset, after)
     }
 
     fn add(&mut self, at: usize, slot: Slot)
-        requires gap { IsGapAt entry_cmp (slot.fileset, slot.key) (arranged self.old.slots.items self.old.order.items) at }
+        requires gap { IsGapAt entry_cmp (slot.fileset, slot.key) (listed_in self.old) at }
         requires room { vec_len self.old.order < self.old.limit }
-        ensures entries { entries_of self.new.slots.items self.new.order.items ≡ map.insert (entries_of self.old.slots.items self.old.order.items) (slot.fileset, slot.key) slot.held }
+        ensures entries { entries_in self.new
+            ≡ map.insert (entries_in self.old) (slot.fileset, slot.key) slot.held }
         ensures limit { self.new.limit ≡ self.old.limit }
     {
         let number = store(&mut self.slots, &mut self.free, slot);
@@ -126,8 +133,10 @@ impl Entries {
 
     /// Sets what a fileset holds at a key.
     pub fn put(&mut self, fileset: u32, key: &Key, held: Held)
-        requires { IsSome (map.get (entries_of self.old.slots.items self.old.order.items) (fileset, key.now)) ⊎ (vec_len self.old.order < self.old.limit) }
-        ensures entries { entries_of self.new.slots.items self.new.order.items ≡ map.insert (entries_of self.old.slots.items self.old.order.items) (fileset, key.now) held }
+        requires { IsSome (map.get (entries_in self.old) (fileset, key.now))
+            ⊎ (map.len (entries_in self.old) < self.old.limit) }
+        ensures entries { entries_in self.new
+            ≡ map.insert (entries_in self.old) (fileset, key.now) held }
         ensures limit { self.new.limit ≡ self.old.limit }
     {
         match self.find(fileset, key) {
@@ -145,7 +154,8 @@ impl Entries {
 
     /// Takes away what a fileset holds at a key.
     pub fn remove(&mut self, fileset: u32, key: &Key)
-        ensures entries { entries_of self.new.slots.items self.new.order.items ≡ map.remove (entries_of self.old.slots.items self.old.order.items) (fileset, key.now) }
+        ensures entries { entries_in self.new
+            ≡ map.remove (entries_in self.old) (fileset, key.now) }
         ensures limit { self.new.limit ≡ self.old.limit }
     {
         if let Ok(at) = self.find(fileset, key) {

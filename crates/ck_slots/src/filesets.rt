@@ -1,4 +1,5 @@
-ghost use Rattle.std.specs.Prelude.{◌≡◌, ◌≤◌, ◌<◌, ◌∷◌, ◌⊎◌, [], true, IsSome, IfOk, IfErr, IfSome, MatchOption, vec_len, vec_capacity};
+ghost use Rattle.std.specs.Prelude.{◌≡◌, ◌≤◌, ◌<◌, ◌∷◌, ◌⊎◌, [], true, vec_len, vec_capacity};
+ghost use Rattle.std.specs.Prelude.{IsSome, IfOk, IfErr, IfSome, MatchOption};
 ghost use Rattle.std.specs.Ordering.{nat_cmp};
 ghost use Rattle.std.specs.FinMap.{is_sorted};
 ghost use Rattle.std.specs.FinMap as map;
@@ -33,8 +34,10 @@ pub fn look(filesets: &[(u32, Fileset)], id: u32) -> Option<Fileset>
 
 pub fn set(filesets: &mut Vec<(u32, Fileset)>, id: u32, fileset: Fileset)
     requires sorted { is_sorted nat_cmp filesets.old.items ≡ true }
-    requires room { IsSome (map.get (filesets_of filesets.old.items) id) ⊎ (vec_len filesets.old < vec_capacity filesets.old) }
-    ensures set { Edits nat_cmp filesets.new.items (map.insert (filesets_of filesets.old.items) id fileset) }
+    requires room { IsSome (map.get (filesets_of filesets.old.items) id)
+        ⊎ (vec_len filesets.old < vec_capacity filesets.old) }
+    ensures set { Edits nat_cmp filesets.new.items
+        (map.insert (filesets_of filesets.old.items) id fileset) }
     ensures capacity { vec_capacity filesets.old ≤ vec_capacity filesets.new }
 {
     match search(filesets, id) {
@@ -45,7 +48,8 @@ pub fn set(filesets: &mut Vec<(u32, Fileset)>, id: u32, fileset: Fileset)
 
 pub fn unset(filesets: &mut Vec<(u32, Fileset)>, id: u32)
     requires { is_sorted nat_cmp filesets.old.items ≡ true }
-    ensures unset { Edits nat_cmp filesets.new.items (map.remove (filesets_of filesets.old.items) id) }
+    ensures unset { Edits nat_cmp filesets.new.items
+        (map.remove (filesets_of filesets.old.items) id) }
     ensures capacity { vec_capacity filesets.new ≡ vec_capacity filesets.old }
 {
     if let Ok(at) = search(filesets, id) {
@@ -56,7 +60,8 @@ pub fn unset(filesets: &mut Vec<(u32, Fileset)>, id: u32)
 /// The least id above this number.
 pub fn next_id(filesets: &[(u32, Fileset)], after: u32) -> Option<u32>
     requires { is_sorted nat_cmp filesets.now ≡ true }
-    ensures next { MatchOption result (ids_behind filesets.now after ≡ []) (λ id. ids_behind filesets.now after ≡ id ∷ ids_behind filesets.now id) }
+    ensures next { MatchOption result (ids_behind filesets.now after ≡ [])
+        (λ id. ids_behind filesets.now after ≡ id ∷ ids_behind filesets.now id) }
     ensures above { IfSome result (λ id. after < id) }
 {
     let at = filesets.partition_point(|entry| entry.0 <= after);

@@ -1,4 +1,5 @@
-ghost use Rattle.std.specs.Prelude.{◌≡◌, ◌<◌, ◌≤◌, ◌∷◌, [], ◌↔◌, true, Some, IsTrue, length, slice_index, EachIndex, IfOk, IfErr, MatchOption};
+ghost use Rattle.std.specs.Prelude.{◌≡◌, ◌<◌, ◌≤◌, ◌∷◌, [], ◌↔◌, true, Some, length, slice_index};
+ghost use Rattle.std.specs.Prelude.{IsTrue, IfOk, IfErr, EachIndex, MatchOption};
 ghost use Rattle.std.specs.Option.{option_copied};
 ghost use Rattle.std.specs.FinMap.{is_sorted};
 ghost use Rattle.ck_model.specs.Key.{entry_cmp};
@@ -67,8 +68,10 @@ fn is_entry(slot: &Slot, fileset: u32, key: &Key) -> bool
 pub fn search(slots: &[Slot], order: &[u32], fileset: u32, key: &Key) -> Result<usize, usize>
     requires sorted { is_sorted entry_cmp (arranged slots.now order.now) ≡ true }
     requires within { EachIndex order.now (λ k. slice_index order.now k < length slots.now) }
-    ensures found { IfOk result (IsFoundAt entry_cmp (fileset, key.now) (arranged slots.now order.now)) }
-    ensures absent { IfErr result (IsGapAt entry_cmp (fileset, key.now) (arranged slots.now order.now)) }
+    ensures found { IfOk result
+        (IsFoundAt entry_cmp (fileset, key.now) (arranged slots.now order.now)) }
+    ensures absent { IfErr result
+        (IsGapAt entry_cmp (fileset, key.now) (arranged slots.now order.now)) }
 {
     let at = place(slots, order, &Cut::Before(fileset, *key));
     if at < order.len() && is_entry(&slots[order[at] as usize], fileset, key) {

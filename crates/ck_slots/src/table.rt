@@ -5,7 +5,7 @@ ghost use Rattle.std.specs.FinMap as map;
 ghost use Rattle.ck_model.specs.Rules.{IsSound};
 ghost use Rattle.ck_model.specs.Table.{IsTable, IsSized};
 ghost use Rattle.ck_slots.specs.Formatted.{formatted_table, StandsForEmpty};
-ghost use Rattle.ck_slots.specs.Lawful.{table_of, IsTable-prop, IsSized-prop};
+ghost use Rattle.ck_slots.specs.Lawful.{table_of, IsTable-prop};
 
 use crate::entries::Entries;
 use crate::filesets::{look, next_id, set, unset};
@@ -21,8 +21,8 @@ pub struct Slots {
     blocks: u32,
     ghost sorted: { is_sorted nat_cmp filesets.items ≡ true },
     ghost room: { entries.limit ≤ vec_capacity filesets },
-    ghost within_limits: { IsTable (table_of entries.slots.items entries.order.items filesets.items counters blocks entries.limit) } by { IsTable-prop (table_of entries.slots.items entries.order.items filesets.items counters blocks entries.limit) },
-    ghost fits: { IsSized (table_of entries.slots.items entries.order.items filesets.items counters blocks entries.limit) } by { IsSized-prop (table_of entries.slots.items entries.order.items filesets.items counters blocks entries.limit) },
+    ghost within_limits: { IsTable (table_of entries filesets.items counters blocks) } by { IsTable-prop _ },
+    ghost fits: { IsSized (table_of entries filesets.items counters blocks) },
 }
 
 impl Slots {
@@ -73,7 +73,8 @@ impl Slots {
     /// The entry at this place in the order of filesets and keys.
     pub fn entry_at(&self, at: u32) -> (u32, Key, Held)
         requires { at < map.len (table_in self.now).entries }
-        ensures { slice_get (map.entries (table_in self.now).entries) at ≡ Some ((result.0, result.1), result.2) }
+        ensures { slice_get (map.entries (table_in self.now).entries) at
+            ≡ Some ((result.0, result.1), result.2) }
     {
         self.entries.at(at as usize)
     }

@@ -4,6 +4,7 @@ use Rattle.std.proofs.lemmas.List.{length-set}
 use Rattle.ck_model.specs.Key.{entry_cmp_total, entry_cmp_exact}
 use Rattle.ck_model.proofs.Places.{get_gap}
 use Rattle.ck_slots.specs.Arranged.{arranged, StandOnce}
+use Rattle.ck_slots.proofs.ArrangedLemmas.{len-entries_of}
 use Rattle.ck_slots.proofs.EntryLemmas.{number_in_range, put_in_place}
 use Rattle.ck_slots.proofs.entries.Entries.put.Goals as goal
 
@@ -18,7 +19,7 @@ add-requires-clause-room c =
     let s = c.args.self.now in
     elim c.requires [
       | inl stands ↦ absurd (false≢true (subst IsSome (sym (get_gap entry_cmp_total entry_cmp_exact (c.args.fileset, c.args.key.now) (arranged s.slots.items s.order.items) c.in-Err.at c.in-Err.ensures.absent s.sorted)) stands))
-      | inr room ↦ room
+      | inr room ↦ omega (arith, room, len-entries_of s.slots.items s.order.items s.sorted)
     ]
 
 pub invariant_of-self-clause-sorted : goal.invariant_of-self-clause-sorted

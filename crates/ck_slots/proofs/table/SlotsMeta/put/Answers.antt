@@ -3,7 +3,6 @@ use Rattle.ck_model.specs.Held.{IsEntry}
 use Rattle.ck_model.specs.Table.{IsTable, IsSized}
 use Rattle.ck_slots.specs.Slots.{table_in}
 use Rattle.ck_slots.specs.Arranged.{entries_of}
-use Rattle.ck_slots.proofs.ArrangedLemmas.{len-entries_of}
 use Rattle.ck_slots.proofs.TableLemmas.{IsTable-with_entry, IsSized-with_entry, entered, as_given}
 use Rattle.ck_slots.proofs.table.SlotsMeta.put.Goals as goal
 
@@ -12,7 +11,7 @@ put-requires c =
     let e = c.args.self.now.entries in
     elim c.requires.room [
       | inl stands ↦ inl stands
-      | inr room ↦ inr (omega (arith, room, len-entries_of e.slots.items e.order.items e.sorted))
+      | inr room ↦ inr (omega (arith, room))
     ]
 
 pub invariant_of-self-clause-within_limits : goal.invariant_of-self-clause-within_limits
