@@ -4,3 +4,4 @@ pub mod Firsts
 pub mod Parts
 pub mod Split
 pub mod Known
+pub mod Pushed

@@ -8,6 +8,7 @@ mod forms;
 mod holder;
 mod known;
 mod parts;
+mod pushes;
 mod reading;
 mod repeated;
 mod repeats;

@@ -1,6 +1,7 @@
 ghost use Rattle.std.specs.Prelude.{◌≡◌, ◌≤◌, ◌<◌, ◌*◌, ◌+◌, ◌++◌, ◌∷◌, [], ℕ, None, take, drop, slice_index_or, OnOk, OnErr, vec_len, vec_capacity};
 ghost use Rattle.ck_area.specs.Area.{Blocks, IsReadAs, AreSlots};
 
+use crate::pushes::push_each;
 use ck_model::NoMemory;
 use ck_record::{Record, decode};
 
@@ -27,10 +28,7 @@ fn push_slots(block: &[u8; 4096], into: &mut Vec<Option<Record>>)
         → AreSlots (blocks ++ block.now ∷ []) into.new.items }
     ensures capacity { vec_capacity into.new ≡ vec_capacity into.old }
 {
-    let _key: Option<ck_model::Key> = None;
-    for place in 0..SLOTS {
-        into.push_reserved(slot_in(block, place));
-    }
+    push_each(into, SLOTS, &|place| slot_in(block, place));
 }
 
 /// Appends the slots of the next block of a table. A refusal appends nothing.
