@@ -8,3 +8,6 @@ mod texts;
 mod top;
 
 pub use top::image_top;
+
+#[cfg(test)]
+mod tests;
