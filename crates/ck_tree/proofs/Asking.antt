@@ -6,7 +6,8 @@ use Rattle.ck_model.specs.declared.cell.Payload.TheVariants.{To, File, Dir, Byte
 use Rattle.ck_model.specs.Cells.{Cells, Content, content_at, named_node, is_directory, size_in}
 use Rattle.ck_model.specs.Table.{Table}
 use Rattle.ck_model.specs.Chain.{value_at}
-use Rattle.ck_tree.specs.Standing.{payload_of, small_in, without_bytes, StandsFor}
+use Rattle.ck_model.specs.Values.{payload_of}
+use Rattle.ck_tree.specs.Standing.{small_in, without_bytes, StandsFor}
 
 module _ {A : Type 0} (ask : Content → A) (alike : (content : Content) → ask (without_bytes content) ≡ ask content) where
   pub asked : (t : Table) (fs : ℕ) (cells : Cells) → StandsFor t fs cells → (key : Key) → ask (option_map payload_of (small_in (value_at t fs key))) ≡ ask (content_at cells key)

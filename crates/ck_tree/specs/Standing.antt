@@ -3,20 +3,14 @@ use Rattle.std.specs.Prelude.{◌≡◌, ℕ, Option, Some, None, is_some}
 use Rattle.std.specs.Option.{option_map}
 use Rattle.std.specs.FinMap as map
 use Rattle.ck_model.specs.declared.key.Key.{Key}
-use Rattle.ck_model.specs.declared.cell.Payload.{Payload}
 use Rattle.ck_model.specs.declared.cell.Payload.TheVariants as payload
 use Rattle.ck_model.specs.declared.held.Held.{Held}
 use Rattle.ck_model.specs.declared.held.Held.TheVariants.{Absent, Plain, Extent, Mark}
 use Rattle.ck_model.specs.declared.held.Small.{Small}
-use Rattle.ck_model.specs.declared.held.Small.TheVariants as small
 use Rattle.ck_model.specs.Cells.{Cells, Content, content_at}
 use Rattle.ck_model.specs.Table.{Table}
 use Rattle.ck_model.specs.Chain.{value_at}
-
-abbrev pub payload_of : Small → Payload
-payload_of (small.To node) = payload.To node
-payload_of (small.File size) = payload.File size
-payload_of small.Dir = payload.Dir
+use Rattle.ck_model.specs.Values.{payload_of}
 
 -- what stands in the entry itself
 abbrev pub small_in : Option Held → Option Small

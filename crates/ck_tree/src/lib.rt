@@ -1,14 +1,13 @@
 //! Paths in the primary or in a checkpoint of a table: the node that a path leads to, and the key
-//! of its last name. Data blocks: one that no entry names. Generic over the table.
+//! of its last name. Generic over the table.
 #![tactic(auto)]
 
-mod blocks;
 mod naming;
 mod nodes;
 mod value;
 mod walking;
 
-pub use blocks::unused_block;
 pub use naming::{directory_at, file_at, name_at, new_name_at, node_at};
 pub use nodes::{is_directory_at, size_at};
+pub use value::held_at;
 pub use walking::walk;

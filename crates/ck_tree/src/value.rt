@@ -1,6 +1,7 @@
 ghost use Rattle.std.specs.Prelude.{◌≡◌};
-ghost use Rattle.ck_model.specs.Chain.{present, value_of, value_at};
+ghost use Rattle.ck_model.specs.Chain.{present, value_at};
 
+use ck_chain::value;
 use ck_model::{Held, Key, Meta};
 
 /// An absent says that there is no cell.
@@ -13,22 +14,6 @@ fn present(held: Option<Held>) -> Option<Held>
     }
 }
 
-/// What a checkpoint has at a key, through the newer ones.
-fn value_of<M: Meta>(meta: &M, fs: u32, key: &Key) -> Option<Held>
-    ensures { result ≡ value_of (M.table meta.now) fs key.now }
-{
-    let mut at = fs;
-    loop {
-        if let Some(held) = meta.get(at, key) {
-            return present(Some(held));
-        }
-        match meta.next_fileset(at) {
-            Some(id) => at = id,
-            None => return present(meta.get(0, key)),
-        }
-    }
-}
-
 /// What a fileset has at a key, the primary among them.
 pub fn held_at<M: Meta>(meta: &M, fs: u32, key: &Key) -> Option<Held>
     ensures { result ≡ value_at (M.table meta.now) fs key.now }
@@ -36,6 +21,6 @@ pub fn held_at<M: Meta>(meta: &M, fs: u32, key: &Key) -> Option<Held>
     if fs == 0 {
         present(meta.get(0, key))
     } else {
-        value_of(meta, fs, key)
+        value(meta, fs, key)
     }
 }
