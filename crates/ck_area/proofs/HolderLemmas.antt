@@ -1,5 +1,5 @@
 -- The first entry behind a place, and the next newer fileset that has an entry at the same key.
-use Rattle.std.proofs.Common.{◌≡◌, ◌≢◌, ◌⊎◌, ℕ, ◌<◌, Bool, true, false, cond, T, ◌&&◌, ◌||◌, nat_lt, nat_eq, List, [], ◌∷◌, map as list_map, Option, Some, None, IsSome, is_some, refl, sym, ap, subst, ◌∙◌, arith, inl, inr}
+use Rattle.std.proofs.Common.{◌≡◌, ℕ, ◌<◌, Bool, true, false, cond, T, ◌&&◌, ◌||◌, nat_lt, nat_eq, List, [], ◌∷◌, map as list_map, Option, Some, None, is_some, refl, sym, ap, subst, ◌∙◌, arith, inl, inr}
 use Rattle.std.specs.declared.cmp.Ordering.{Ordering}
 use Rattle.std.specs.declared.cmp.Ordering.TheVariants.{Less, Equal, Greater}
 use Rattle.std.specs.Ordering.{nat_cmp, is_eq, is_gt, is_lt, eq_by_cmp, ordering_then, ordering_reverse}

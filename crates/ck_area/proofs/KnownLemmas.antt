@@ -1,10 +1,9 @@
 -- The checkpoints and entries of a table, found in its slots.
-use Rattle.std.proofs.Common.{◌≡◌, ℕ, ◌+◌, ◌<◌, Bool, true, false, cond, ◌&&◌, ◌||◌, not, Option, Some, None, List, [], ◌∷◌, ◌++◌, length, take, get_or, is_some, nat_eq, nat_le, refl, sym, ap, subst, ◌∙◌}
+use Rattle.std.proofs.Common.{◌≡◌, ℕ, ◌+◌, ◌<◌, Bool, true, false, cond, ◌&&◌, ◌||◌, not, Option, Some, None, List, [], ◌∷◌, ◌++◌, length, take, get_or, is_some, nat_le, refl, sym, ap, ◌∙◌}
 use Rattle.std.specs.declared.cmp.Ordering.{Ordering}
 use Rattle.std.specs.declared.cmp.Ordering.TheVariants.{Less, Equal, Greater}
 use Rattle.std.specs.Ordering.{nat_cmp, is_eq, eq_by_cmp, ordering_then}
 use Rattle.std.specs.Option.{option_or}
-use Rattle.std.specs.List.{list_any}
 use Rattle.std.specs.FinMap.{find}
 use Rattle.std.proofs.lemmas.List.Folds.{list_any-append}
 use Rattle.std.proofs.lemmas.Cmp.{eq_by_cmp_equiv}
@@ -18,7 +17,7 @@ use Rattle.ck_model.proofs.ValuesOf.{tied_entry}
 use Rattle.ck_record.specs.declared.records.Record.{Record}
 use Rattle.ck_area.specs.Area.{Area, entries_by, entries_in, filesets_by, filesets_in}
 use Rattle.ck_area.specs.Damage.{data_upto}
-use Rattle.ck_area.specs.Known.{column_order, is_home, found_at_home, is_from}
+use Rattle.ck_area.specs.Known.{column_order, is_home, found_at_home}
 use Rattle.ck_area.proofs.OrderLemmas.{derived_key}
 use Rattle.ck_area.proofs.SlotLemmas.{entries_more, filesets_more}
 

@@ -1,5 +1,5 @@
 -- The orders of keys and of what stands beside them, as tests for the same.
-use Rattle.std.proofs.Common.{◌≡◌, ℕ, Bool, ◌&&◌, List, nat_eq, refl, sym, ap, ◌∙◌, arith}
+use Rattle.std.proofs.Common.{◌≡◌, ℕ, ◌&&◌, List, nat_eq, refl, sym, ap, ◌∙◌, arith}
 use Rattle.std.specs.declared.cmp.Ordering.{Ordering}
 use Rattle.std.specs.declared.cmp.Ordering.TheVariants.{Less, Equal, Greater}
 use Rattle.std.specs.Ordering.{nat_cmp, is_eq, eq_by_cmp, ordering_then}
@@ -7,7 +7,7 @@ use Rattle.std.specs.Cmp.Lexicographic.{slice_cmp, pointwise, lists_ties}
 use Rattle.std.proofs.lemmas.Bool.Decides.{nat_tests}
 use Rattle.ck_model.specs.declared.key.Key.{Key}
 use Rattle.ck_model.specs.declared.key.Key.TheVariants.{Name, Node, Block}
-use Rattle.ck_model.specs.Key.{key_cmp, entry_cmp, spelled}
+use Rattle.ck_model.specs.Key.{key_cmp, entry_cmp}
 use Rattle.ck_model.specs.contracts.key.KeyOrd.TheImpl.{ghosts}
 
 then_equal : (o : Ordering) → o ≡ ordering_then o Equal

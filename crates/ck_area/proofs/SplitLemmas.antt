@@ -1,5 +1,5 @@
 -- A slot breaks a rule where it breaks one of the parts of the rules.
-use Rattle.std.proofs.Common.{◌≡◌, ℕ, zero, suc, ◌+◌, ◌<◌, Bool, true, false, not, ◌&&◌, ◌||◌, Option, Some, None, is_some, List, [], ◌∷◌, length, take, get_or, map as list_map, nat_eq, nat_lt, nat_le, if◌then◌else◌, refl, sym, ap, subst, ◌∙◌, arith}
+use Rattle.std.proofs.Common.{◌≡◌, ℕ, zero, suc, Bool, true, false, not, ◌&&◌, ◌||◌, Option, Some, None, is_some, List, [], ◌∷◌, take, get_or, map as list_map, nat_eq, nat_lt, nat_le, if◌then◌else◌, refl, sym, ap, ◌∙◌}
 use Rattle.std.specs.Ordering.{eq_by_cmp}
 use Rattle.std.specs.Cmp.Lexicographic.{pointwise}
 use Rattle.std.specs.List.{list_any}
@@ -8,7 +8,6 @@ use Rattle.std.proofs.lemmas.List.Folds.{list_any-append}
 use Rattle.std.specs.Option.{option_map_or, option_map}
 use Rattle.ck_model.specs.declared.key.Key.{Key}
 use Rattle.ck_model.specs.declared.held.Held.{Held}
-use Rattle.ck_model.specs.declared.held.Held.TheVariants.{Absent, Plain, Extent, Mark}
 use Rattle.ck_model.specs.declared.checkpoint.Fileset.{Fileset}
 use Rattle.ck_model.specs.Key.{key_cmp, entry_cmp}
 use Rattle.ck_model.specs.Rules.{stamp_in, block_in}
@@ -18,7 +17,7 @@ use Rattle.ck_area.specs.Area.{Area, entries_by, entries_in, filesets_by, filese
 use Rattle.ck_area.specs.Damage.{has_place, has_version, has_block, has_fileset, is_alike, is_id_past, is_stamp_past, is_number_past, live_count, breaks_whole, breaks_slot, is_free}
 use Rattle.ck_area.specs.Firsts.{stands_in, repeats}
 use Rattle.ck_area.specs.Parts.{place_in, version_in, named_in, id_in, live_name_in}
-use Rattle.ck_area.specs.Split.{is_past, is_entry_past, breaks_alone, crowds, breaks_table, stands_below, breaks_again}
+use Rattle.ck_area.specs.Split.{breaks_alone, crowds, breaks_table, stands_below, breaks_again}
 
 or_false : (b : Bool) → (b || false) ≡ b
 or_false true = refl

@@ -1,5 +1,5 @@
 -- What is known of a whole table: the checkpoints and entries by their keys, and what follows from them.
-use Rattle.std.specs.Prelude.{◌≡◌, ◌<◌, ◌⊎◌, ℕ, Bool, true, false, not, ◌&&◌, ◌||◌, List, Option, Some, None, is_some, IsSome, if◌then◌else◌, nat_eq, nat_le}
+use Rattle.std.specs.Prelude.{◌≡◌, ◌<◌, ◌⊎◌, ℕ, Bool, false, ◌||◌, List, Option, Some, None, is_some, IsSome, if◌then◌else◌, nat_eq, nat_le}
 use Rattle.std.specs.declared.cmp.Ordering.{Ordering}
 use Rattle.std.specs.declared.cmp.Ordering.TheVariants.{Less}
 use Rattle.std.specs.Ordering.{nat_cmp, ordering_then, is_gt}
@@ -8,7 +8,6 @@ use Rattle.std.specs.FinMap.{find}
 use Rattle.std.specs.BTreeMap as tree
 use Rattle.ck_model.specs.declared.key.Key.{Key}
 use Rattle.ck_model.specs.declared.held.Held.{Held}
-use Rattle.ck_model.specs.declared.held.Held.TheVariants.{Absent, Plain, Extent, Mark}
 use Rattle.ck_model.specs.declared.checkpoint.Fileset.{Fileset}
 use Rattle.ck_model.specs.Key.{entry_cmp}
 use Rattle.ck_model.specs.contracts.key.KeyOrd.TheImpl.{ghosts}

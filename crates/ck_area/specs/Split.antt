@@ -1,5 +1,5 @@
 -- The rules on a slot, apart: those on the record alone, those on lower slots, and those on the whole table.
-use Rattle.std.specs.Prelude.{◌≡◌, ℕ, suc, zero, Bool, true, false, not, ◌&&◌, ◌||◌, List, Option, Some, None, is_some, take, nat_eq, nat_le, nat_lt, map as list_map}
+use Rattle.std.specs.Prelude.{ℕ, suc, zero, Bool, true, false, not, ◌&&◌, ◌||◌, List, Option, Some, None, is_some, take, nat_eq, nat_le, nat_lt, map as list_map}
 use Rattle.std.specs.Ordering.{eq_by_cmp}
 use Rattle.std.specs.Cmp.Lexicographic.{pointwise}
 use Rattle.std.specs.Option.{option_map_or}
@@ -12,7 +12,7 @@ use Rattle.ck_model.specs.Key.{key_cmp, entry_cmp}
 use Rattle.ck_model.specs.Table.{Table}
 use Rattle.ck_record.specs.declared.records.Record.{Record}
 use Rattle.ck_record.specs.declared.records.Record.TheVariants.{Free, Counters as CountersRecord, Fileset as FilesetRecord, Entry}
-use Rattle.ck_area.specs.Area.{Area, slot_at, filesets_in, counters_in, table_of}
+use Rattle.ck_area.specs.Area.{Area, slot_at, filesets_in}
 use Rattle.ck_area.specs.Firsts.{stands_in}
 use Rattle.ck_area.specs.Parts.{place_in, version_in, named_in, id_in, live_name_in}
 use Rattle.ck_area.specs.Damage.{is_id_past, is_stamp_past, is_number_past, is_free, live_count, breaks_whole}

@@ -1,9 +1,8 @@
-use Rattle.std.proofs.Common.{ℕ, Bool, ◌&&◌, ◌||◌, nat_eq, length, take, refl}
+use Rattle.std.proofs.Common.{ℕ, Bool, ◌||◌, nat_eq, length, take, refl}
 use Rattle.std.specs.Ordering.{eq_by_cmp}
 use Rattle.std.specs.Cmp.Lexicographic.{pointwise}
 use Rattle.ck_model.specs.Key.{entry_cmp}
 use Rattle.ck_area.specs.Area.{slot_at}
-use Rattle.ck_area.specs.Firsts.{repeats}
 use Rattle.ck_area.specs.Parts.{place_in, version_in, named_in, id_in, live_name_in}
 use Rattle.ck_area.specs.Split.{stands_below}
 use Rattle.ck_area.proofs.FirstLemmas.{first_alike}

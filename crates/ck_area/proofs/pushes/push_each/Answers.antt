@@ -1,4 +1,4 @@
-use Rattle.std.proofs.Common.{◌≡◌, ◌+◌, ℕ, arith, rules, sym, subst, ◌∙◌}
+use Rattle.std.proofs.Common.{◌+◌, ℕ, arith, rules, sym, subst, ◌∙◌}
 use Rattle.ck_area.specs.Pushed.{ArePushed}
 use Rattle.ck_area.proofs.ReadingLemmas.{pushed_none, pushed_more}
 use Rattle.ck_area.proofs.pushes.push_each.Goals as goal

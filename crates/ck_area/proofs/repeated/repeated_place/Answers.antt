@@ -1,5 +1,5 @@
-use Rattle.std.proofs.Common.{◌≡◌, ℕ, ◌&&◌, nat_eq, ◌∙◌}
-use Rattle.std.specs.Ordering.{nat_cmp, eq_by_cmp}
+use Rattle.std.proofs.Common.{◌∙◌}
+use Rattle.std.specs.Ordering.{eq_by_cmp}
 use Rattle.ck_model.specs.Key.{entry_cmp}
 use Rattle.ck_area.proofs.OrderLemmas.{place_order, same_places}
 use Rattle.ck_area.specs.Parts.{place_in}

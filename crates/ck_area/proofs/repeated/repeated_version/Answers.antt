@@ -1,5 +1,5 @@
-use Rattle.std.proofs.Common.{◌≡◌, ℕ, ◌&&◌, nat_eq, ◌∙◌}
-use Rattle.std.specs.Ordering.{nat_cmp, eq_by_cmp}
+use Rattle.std.proofs.Common.{◌&&◌, nat_eq, ◌∙◌}
+use Rattle.std.specs.Ordering.{eq_by_cmp}
 use Rattle.ck_model.specs.Key.{key_cmp}
 use Rattle.ck_area.proofs.OrderLemmas.{version_order, same_versions}
 use Rattle.ck_area.specs.Parts.{version_in}

@@ -1,4 +1,4 @@
-use Rattle.std.proofs.Common.{◌≡◌, ℕ, ◌+◌, ◌*◌, ◌<◌, ◌≤◌, length, take, drop, get_or, sym, ap, subst, ◌∙◌, arith, below_more}
+use Rattle.std.proofs.Common.{◌≡◌, ℕ, ◌*◌, ◌≤◌, length, get_or, sym, ap, ◌∙◌, arith, below_more}
 use Rattle.std.proofs.lemmas.List.{get_or_default}
 use Rattle.ck_record.specs.declared.records.Record.TheVariants.{Free}
 use Rattle.ck_record.specs.Record.{spelling}

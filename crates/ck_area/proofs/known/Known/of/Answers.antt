@@ -1,4 +1,4 @@
-use Rattle.std.proofs.Common.{ℕ, cond, Option, None, sym, ap, ◌∙◌}
+use Rattle.std.proofs.Common.{cond, Option, None, sym, ap, ◌∙◌}
 use Rattle.std.specs.Ordering.{nat_cmp}
 use Rattle.std.specs.BTreeMap as tree
 use Rattle.std.specs.FinMap as map
