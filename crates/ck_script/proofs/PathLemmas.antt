@@ -66,7 +66,7 @@ text_of_parts (part ∷ parts) text e = e
 
 -- a word that has names is their text
 names_word : (word : List ℕ) → IsNamesWord word → (path_text (parts_of (drop 1 word)) ≡ word) × IsPath (parts_of (drop 1 word))
-names_word [] h = let wrong : 0 ≡ 47 = h.slash in cc
+names_word [] h = absurd (omega (arith, h.slash))
 names_word (byte ∷ text) h =
     let is : 47 ≡ byte = sym h.slash in
     let same : path_text (parts_of text) ≡ byte ∷ text = text_of_parts (parts_of text) text (joined-parts text) ∙ ap (λ b. b ∷ text) is in
