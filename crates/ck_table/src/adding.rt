@@ -28,7 +28,8 @@ pub enum AddFault {
     Spent,
 }
 
-fn new_id<M: Meta>(meta: &M, name: &NameBytes) -> Result<u32, AddFault>
+/// The id that a new checkpoint with this name would get, or why there is none.
+pub fn new_id<M: Meta>(meta: &M, name: &NameBytes) -> Result<u32, AddFault>
     ensures { result ≡ new_id (M.table meta.now) name.now }
 {
     if find(meta, name).is_some() {

@@ -6,6 +6,6 @@ mod adding;
 mod leaving;
 mod listing;
 
-pub use adding::{AddFault, add};
+pub use adding::{AddFault, add, new_id};
 pub use leaving::{mark_gone, unlink};
-pub use listing::{find, live};
+pub use listing::{count_live, find, live};
