@@ -112,6 +112,27 @@ entry_stays t key new lawful fs above some =
       ]
     ]
 
+-- where a checkpoint has no entry and gets none, it has none as the primary's is replaced
+replaced_bare : (t : Table) (key : Key) (push : Option (ℕ × Held)) (new : Option Held) (fs : ℕ) → 0 < fs → IfSome push (λ entry. entry.0 ≢ fs) → column (replaced t key push new) key fs ≡ column t key fs
+replaced_bare t key None new fs above apart = column-with_entry t 0 key new fs ∙ grind (arith, nat_tests)
+replaced_bare t key (Some entry) new fs above apart =
+    let last : column (replaced t key (Some entry) new) key fs ≡ column (with_entry t entry.0 key (Some entry.1)) key fs = column-with_entry (with_entry t entry.0 key (Some entry.1)) 0 key new fs ∙ grind (arith, nat_tests) in
+    last ∙ column-with_entry t entry.0 key (Some entry.1) fs
+    ∙ elim (nat_eq fs entry.0) as (λ b. nat_eq fs entry.0 ≡ b → cond b (Some entry.1) (column t key fs) ≡ column t key fs) [
+      | true ↦ λ e. let same : fs ≡ entry.0 = grind (arith, nat_tests) in absurd (apart (sym same))
+      | false ↦ λ e. refl
+    ] refl
+
+-- and after a change
+pub bare_stays : (t : Table) (key : Key) (new : Option Held) (fs : ℕ) → 0 < fs → IfSome (push_of t key) (λ entry. entry.0 ≢ fs) → column t key fs ≡ None → column (changed t key new) key fs ≡ None
+bare_stays t key new fs above apart none =
+    let u = replaced t key (push_of t key) new in
+    let first : column u key fs ≡ None = replaced_bare t key (push_of t key) new fs above apart ∙ none in
+    elim (newest_live_of t) as (λ o. column (tidied_in u key o) key fs ≡ None) [
+      | None ↦ first
+      | Some n ↦ elim (column-tidied u n key fs key) [ inl same ↦ same ∙ first | inr gone ↦ gone.3 ]
+    ]
+
 -- what is pushed is there, also after the tidying
 push_there : (t : Table) (n : ℕ) (key : Key) (new : Option Held) → IsOrderly t → newest_live_of t ≡ Some n → 0 < n → is_covered t n key ≡ false → IfSome new IsOwn → (new ≡ None → IsSome (column t key 0))
     → column (tidied (after t n key new) n key) key n ≡ Some (pushed (keeps_data t n) (column t key 0))

@@ -46,6 +46,11 @@ pub fn change<M: Meta>(meta: &mut M, item: &Change, stamp: u64) -> Freed
         ≡ column (M.table meta.old) (key_of item.now) fs)
         ⊎ ((column (M.table meta.old) (key_of item.now) fs ≡ Some Absent)
         × (column (M.table meta.new) (key_of item.now) fs ≡ None)) }
+    // No other checkpoint gets an entry.
+    ensures bare { (fs : ℕ) → 0 < fs →
+        IfSome (push_of (M.table meta.old) (key_of item.now)) (λ entry. entry.0 ≢ fs) →
+        column (M.table meta.old) (key_of item.now) fs ≡ None →
+        column (M.table meta.new) (key_of item.now) fs ≡ None }
     ensures others { (q : Key) → q ≢ key_of item.now →
         column (M.table meta.new) q ≡ column (M.table meta.old) q }
     ensures filesets { (M.table meta.new).filesets ≡ (M.table meta.old).filesets }

@@ -9,7 +9,7 @@ use Rattle.ck_chain.specs.Changes.{key_of, value_after}
 use Rattle.ck_push.specs.Changed.{changed, push_into, push_of, replaced}
 use Rattle.ck_push.specs.Growth.{gain, loss}
 use Rattle.ck_push.specs.Released.{released}
-use Rattle.ck_push.proofs.ChangeLaws.{deletes, entry_stays, key_below, key_place, may_set, new_block, newest_live, own_value, push_stays}
+use Rattle.ck_push.proofs.ChangeLaws.{bare_stays, deletes, entry_stays, key_below, key_place, may_set, new_block, newest_live, own_value, push_stays}
 use Rattle.ck_push.proofs.CountLaws.{count_changed}
 use Rattle.ck_push.proofs.NeedLaws.{sound_changed}
 use Rattle.ck_push.proofs.PushLaws.{orderly_replaced, push_apart, push_entry}
@@ -75,6 +75,14 @@ returns-clause-stays g c fs above some =
     let same : g.M.Meta.table c.tidy_newest.new.meta ≡ changed t key new = search rules in
     subst (λ u. (column u key fs ≡ column t key fs) ⊎ ((column t key fs ≡ Some Absent) × (column u key fs ≡ None))) (sym same)
     (entry_stays t key new (g.met.M.Meta.lawful c.args.meta.now) fs above some)
+
+pub returns-clause-bare : goal.returns-clause-bare
+returns-clause-bare g c fs above apart none =
+    let t = g.M.Meta.table c.args.meta.now in
+    let key = key_of c.args.item.now in
+    let new = value_after c.args.item.now c.args.stamp in
+    let same : g.M.Meta.table c.tidy_newest.new.meta ≡ changed t key new = search rules in
+    subst (λ u. column u key fs ≡ None) (sym same) (bare_stays t key new fs above apart none)
 
 pub returns-clause-others : goal.returns-clause-others
 returns-clause-others g c q differ =
