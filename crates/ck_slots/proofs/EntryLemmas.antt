@@ -81,17 +81,3 @@ module _ (slots : List Slot) (order free : List ℕ) (sorted : is_sorted entry_c
           (subst (λ n. StandOnce (length slots + 1) (insert order at n) new_free) (sym fresh.2)
           (subst (λ fs. StandOnce (length slots + 1) (insert order at (length slots)) fs) (fresh.0 ∙ sym fresh.1) (once_new (length slots) order free at once)))
     ]
-
-    -- one free number less, or one slot more
-    pub length_put : length new_free + length slots + 1 ≡ length free + length new_slots
-    length_put = elim stored [
-      | inl again ↦
-          let less = ap length again.0 ∙ length-append new_free (number ∷ []) in
-          let same = ap length again.1 ∙ length-set slots number slot in
-          omega (arith, less, same)
-      | inr fresh ↦
-          let longer = ap length fresh.3 ∙ length-append slots (slot ∷ []) in
-          let none = ap length fresh.0 in
-          let still = ap length fresh.1 in
-          omega (arith, longer, none, still)
-    ]

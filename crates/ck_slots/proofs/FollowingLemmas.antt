@@ -69,9 +69,6 @@ after_all : (after : Option Key) (x y : Key) → is_after after x ≡ true → k
 after_all None x y h lt = refl
 after_all (Some key) x y h lt = ap is_lt (key_cmp_total.trans key x y (less _ (subst T (sym h) tt)) lt)
 
-true_true : {a b : Bool} → a ≡ true → b ≡ true → a ≡ b
-true_true p q = p ∙ sym q
-
 after_of : (a b : Bool) → (a && b) ≡ true → b ≡ true
 after_of true b h = h
 after_of false b h = absurd (false≢true h)

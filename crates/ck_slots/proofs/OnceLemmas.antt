@@ -1,5 +1,5 @@
 -- How often numbers stand in lists, after an edit.
-use Rattle.std.proofs.Common.{◌≡◌, ◌≢◌, ℕ, suc, ◌+◌, ◌<◌, ◌≤◌, Bool, true, false, cond, List, [], ◌∷◌, ◌++◌, take, drop, drop-cons, length, get_or, nat_eq, nat_lt, refl, sym, ap, ◌∙◌, arith, inl, inr}
+use Rattle.std.proofs.Common.{◌≡◌, ℕ, suc, ◌+◌, ◌<◌, ◌≤◌, Bool, true, false, cond, List, [], ◌∷◌, ◌++◌, take, drop, drop-cons, length, get_or, nat_eq, nat_lt, refl, sym, ap, ◌∙◌, arith, inl, inr}
 use Rattle.std.specs.List.{insert, remove}
 use Rattle.std.proofs.lemmas.List.{take-append-drop}
 use Rattle.std.proofs.lemmas.Bool.{cases_lt}
@@ -31,9 +31,6 @@ times-remove number xs at within =
 
 pub one_itself : (n : ℕ) → one n n ≡ 1
 one_itself n = let same : nat_eq n n ≡ true = grind (arith, nat_tests) in ap (λ b. cond b 1 0) same
-
-one_other : (n number : ℕ) → n ≢ number → one n number ≡ 0
-one_other n number h = let other : nat_eq n number ≡ false = grind (arith, nat_tests) in ap (λ b. cond b 1 0) other
 
 pub times_some : (xs : List ℕ) (at : ℕ) → at < length xs → 1 ≤ times (get_or xs at 0) xs
 times_some xs at within = omega (arith, times-remove (get_or xs at 0) xs at within, one_itself (get_or xs at 0))

@@ -10,10 +10,9 @@ use Rattle.std.specs.FinMap as map
 use Rattle.ck_model.specs.declared.key.Key.{Key}
 use Rattle.ck_model.specs.declared.held.Held.{Held}
 use Rattle.ck_model.specs.declared.checkpoint.Fileset.{Fileset}
-use Rattle.ck_model.specs.declared.checkpoint.Counters.{Counters}
 use Rattle.ck_model.specs.Key.{entry_cmp_total, entry_cmp_exact}
-use Rattle.ck_model.specs.Held.{IsWord, IsEntry, IsFileset, IsCounters}
-use Rattle.ck_model.specs.Table.{Table, Entries, Filesets, column, written, recorded, with_entry, with_fileset, with_counters, spare_count, IsTable, IsSized}
+use Rattle.ck_model.specs.Held.{IsWord, IsEntry, IsFileset}
+use Rattle.ck_model.specs.Table.{Table, Entries, Filesets, column, written, recorded, with_entry, with_fileset, spare_count, IsTable, IsSized}
 
 pub equal : (o : Ordering) → is_eq o ≡ true → o ≡ Equal
 equal Less h = cc
@@ -68,9 +67,6 @@ IsTable-with_fileset t id (Some new) table fits = record {
   filesets = each-insert nat_cmp_total nat_cmp-IsAntisymmetric IsFileset t.filesets table.filesets id new (fits new refl);
   counters = table.counters;
 }
-
-pub IsTable-with_counters : (t : Table) (counters : Counters) → IsTable t → IsCounters counters → IsTable (with_counters t counters)
-IsTable-with_counters t counters table fits = record { entries = table.entries; filesets = table.filesets; counters = fits }
 
 -- ---- the records fit
 
