@@ -1,6 +1,6 @@
 -- What applying once gives.
 use Rattle.std.proofs.Common.{◌≡◌, ◌≢◌, ℕ, Bool, true, false, cond, List, [], ◌∷◌, Result, Ok, Err, refl, sym, ap, subst, ◌∙◌, arith}
-use Rattle.std.specs.Prelude.{nat_eq, IfErr, ⊤}
+use Rattle.std.specs.Prelude.{nat_eq, IfErr}
 use Rattle.std.specs.List.{AllByRecursion}
 use Rattle.std.proofs.lemmas.Bool.{eqb-true}
 use Rattle.std.proofs.lemmas.Bool.Decides.{nat_tests}
@@ -12,7 +12,6 @@ use Rattle.ck_stream.specs.declared.fault.ApplyFault.TheVariants as faults
 use Rattle.ck_stream.specs.declared.stream.Full.{Full}
 use Rattle.ck_stream.specs.declared.stream.Changed.{Changed}
 use Rattle.ck_stream.specs.Right.{IsPut, IsFull, contents, changes}
-use Rattle.ck_image.specs.declared.refusal.Refusal.{Refusal}
 use Rattle.ck_image.specs.declared.refusal.Refusal.TheVariants as refusal
 use Rattle.ck_image.specs.Images.{items_with, later, applied_once}
 

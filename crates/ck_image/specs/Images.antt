@@ -1,10 +1,10 @@
 -- What the streams in an input come to: one stream, or a full stream with changed ones applied to it.
-use Rattle.std.specs.Prelude.{◌≡◌, ℕ, zero, suc, List, [], ◌∷◌, length, Option, Some, None, Result, Ok, Err, nat_eq, if◌then◌else◌, ⊤}
+use Rattle.std.specs.Prelude.{◌≡◌, ℕ, zero, suc, List, [], ◌∷◌, length, Some, None, Result, Ok, Err, nat_eq, if◌then◌else◌, ⊤}
 use Rattle.ck_model.specs.declared.key.Key.{Key}
 use Rattle.ck_model.specs.Cells.{Content}
 use Rattle.ck_model.specs.Streams.{applied}
 use Rattle.ck_stream.specs.declared.item.Item.{Item}
-use Rattle.ck_stream.specs.declared.item.Item.TheVariants.{Put, Removed}
+use Rattle.ck_stream.specs.declared.item.Item.TheVariants.{Put}
 use Rattle.ck_stream.specs.declared.fault.StreamFault.{StreamFault}
 use Rattle.ck_stream.specs.declared.fault.StreamFault.TheVariants as fault
 use Rattle.ck_stream.specs.declared.stream.Full.{Full}

@@ -8,3 +8,4 @@ pub mod HeaderLaws
 pub mod StreamLaws
 pub mod Merges
 pub mod MergeLaws
+pub mod Backups

@@ -17,7 +17,7 @@ mod writing;
 pub use applying::apply;
 pub use fault::{ApplyFault, StreamFault};
 pub use item::{Item, Items};
-pub use laws::none_begins_another;
+pub use laws::{backups_apply, none_begins_another};
 pub use reading::read_stream;
 pub use stream::{Changed, Full, Stream};
 pub use writing::{write_changed, write_full};

@@ -186,6 +186,7 @@ fn changes_are_applied(rt: HostRuntime) -> Result<(), Fail> {
 }
 
 #[test]
-fn two_streams_of_one_text_are_one() {
+fn laws_hold() {
     none_begins_another();
+    backups_apply();
 }

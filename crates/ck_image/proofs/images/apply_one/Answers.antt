@@ -1,5 +1,4 @@
 use Rattle.std.proofs.Common.{Ok, Err, refl, ap, ◌∙◌}
-use Rattle.ck_stream.specs.declared.fault.ApplyFault.TheVariants as faults
 use Rattle.ck_image.proofs.Later.{fitting, not_fitting}
 use Rattle.ck_image.proofs.images.apply_one.Goals as goal
 
