@@ -1,5 +1,5 @@
 -- The tests of a word against what a name is.
-use Rattle.std.proofs.Common.{◌≡◌, ℕ, ◌≤◌, ◌&&◌, Bool, true, false, cond, not, List, length, Option, Some, None, IsSome, IfSome, ◌↔◌, nat_eq, nat_le, if◌then◌else◌, codes, refl, sym, ap, subst, arith}
+use Rattle.std.proofs.Common.{◌≡◌, ℕ, ◌≤◌, ◌&&◌, Bool, true, false, cond, not, List, length, Option, Some, None, IsSome, IfSome, ◌↔◌, nat_eq, nat_le, if◌then◌else◌, codes, refl, ap, arith}
 use Rattle.std.specs.Bool.{Decides}
 use Rattle.std.specs.List.{list_all}
 use Rattle.std.proofs.lemmas.Bool.Decides.{nat_tests, Decides-and, Decides-not, Decides-like, Decides-eqb, Decides-by_and}

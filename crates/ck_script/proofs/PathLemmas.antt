@@ -1,15 +1,14 @@
 -- A path is read from a word exactly where the word is its text.
-use Rattle.std.proofs.Common.{◌≡◌, ◌≢◌, ℕ, zero, suc, ◌+◌, ◌≤◌, ◌<◌, ◌&&◌, Bool, true, false, cond, not, List, [], ◌∷◌, ◌++◌, length, drop, Option, Some, None, IfSome, IfNone, IfOk, Result, Ok, Err, All, nat_eq, nat_le, codes, refl, sym, ap, subst, ◌∙◌, inl, inr, lit≤, arith}
+use Rattle.std.proofs.Common.{◌≡◌, ◌≢◌, ℕ, ◌≤◌, ◌&&◌, Bool, true, false, cond, List, [], ◌∷◌, ◌++◌, length, drop, Option, Some, None, IfSome, IfNone, IfOk, Result, Ok, Err, All, nat_le, codes, refl, sym, ap, subst, ◌∙◌, lit≤, arith}
 use Rattle.std.proofs.lemmas.List.{append-nil}
 use Rattle.std.specs.Prelude.{slice_index}
 use Rattle.std.specs.Bool.{Decides}
 use Rattle.std.specs.List.{list_all, slice_split, onto_first}
-use Rattle.std.proofs.lemmas.Bool.{false≢true}
 use Rattle.std.proofs.lemmas.Bool.Decides.{nat_tests, Decides-and, Decides-like, Decides-eqb, Decides-by_and}
 use Rattle.std.proofs.lemmas.Slice.Eq.{bytes_eq-Decides}
 use Rattle.std.proofs.lemmas.List.Elements.{All-head, All-tail, All-weaker}
 use Rattle.std.proofs.lemmas.List.Splits.{slice_split-cons_yes, slice_split-cons_no, slice_split_none, slice_split_at}
-use Rattle.ck_model.specs.Name.{IsNameByte, IsName, IsFileName}
+use Rattle.ck_model.specs.Name.{IsNameByte, IsFileName}
 use Rattle.ck_model.specs.Path.{IsPath, joined, path_text}
 use Rattle.ck_script.specs.Grammar.{is_text, is_slash, is_file_name, names_of, path_of}
 use Rattle.ck_script.proofs.NameLemmas.{Decides-file_name, Decides-nat_le}

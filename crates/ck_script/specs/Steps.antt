@@ -1,5 +1,5 @@
 -- How a script is read line by line.
-use Rattle.std.specs.Prelude.{◌≡◌, ◌<◌, ◌≤◌, ℕ, List, Option, Some, None, Result, Err, IsTrue, length, nat_lt, if◌then◌else◌, slice_index, slice_range, drop}
+use Rattle.std.specs.Prelude.{◌≡◌, ◌<◌, ◌≤◌, ℕ, List, Option, None, Result, Err, IsTrue, length, nat_lt, if◌then◌else◌, slice_index, slice_range, drop}
 use Rattle.std.specs.List.{sum_by}
 use Rattle.std.specs.Str.Lines.{strip_carriage_return}
 use Rattle.ck_script.specs.declared.fault.ParseFault.{ParseFault}

@@ -1,4 +1,4 @@
-use Rattle.std.proofs.Common.{◌≡◌, ◌+◌, ◌∷◌, [], List, drop, length, subst, arith}
+use Rattle.std.proofs.Common.{◌+◌, List, drop, subst}
 use Rattle.std.proofs.lemmas.List.{drop_all}
 use Rattle.ck_model.specs.declared.checkpoint.CkptLine.{CkptLine}
 use Rattle.ck_report.proofs.ListingLemmas.{IsBegun, begun_more, listed, drop_item}

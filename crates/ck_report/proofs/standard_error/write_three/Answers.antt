@@ -1,5 +1,5 @@
 use Rattle.std.proofs.Common.{◌++◌}
-use Rattle.ck_io.proofs.BytesLemmas.{told_on, gains_first, gains_second, gains_all}
+use Rattle.ck_io.proofs.BytesLemmas.{told_on, gains_first, gains_second}
 use Rattle.ck_text.proofs.AppendLemmas.{appended_two}
 use Rattle.ck_report.proofs.standard_error.write_three.Goals as goal
 

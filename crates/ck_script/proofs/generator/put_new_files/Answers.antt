@@ -1,4 +1,4 @@
-use Rattle.std.proofs.Common.{◌+◌, refl, arith}
+use Rattle.std.proofs.Common.{◌+◌, arith}
 use Rattle.ck_script.specs.Generator.{file_lines}
 use Rattle.ck_script.proofs.GeneratorLemmas.{texts_more, draws_more, texts_done, draws_done}
 use Rattle.ck_script.proofs.generator.put_new_files.Goals as goal

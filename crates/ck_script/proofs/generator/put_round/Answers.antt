@@ -1,4 +1,4 @@
-use Rattle.std.proofs.Common.{◌+◌, ◌*◌, ◌/◌, ap, ◌∙◌}
+use Rattle.std.proofs.Common.{◌*◌, ◌/◌, ap, ◌∙◌}
 use Rattle.ck_script.specs.Generator.{after}
 use Rattle.ck_script.proofs.GeneratorLemmas.{after-add, always_ok}
 use Rattle.ck_script.proofs.generator.put_round.Goals as goal

@@ -1,4 +1,4 @@
-use Rattle.std.proofs.Common.{◌+◌, refl, arith}
+use Rattle.std.proofs.Common.{◌+◌, arith}
 use Rattle.ck_script.specs.Generator.{round_text, round_draws}
 use Rattle.ck_script.proofs.GeneratorLemmas.{texts_more, texts_done}
 use Rattle.ck_script.proofs.generator.put_rounds.Goals as goal

@@ -1,5 +1,5 @@
-use Rattle.std.proofs.Common.{◌≡◌, ◌++◌, ◌+◌, ◌-◌, ◌*◌}
-use Rattle.ck_script.specs.Generator.{after, texts, round_text, round_draws}
+use Rattle.std.proofs.Common.{◌≡◌, ◌++◌, ◌+◌, ◌-◌}
+use Rattle.ck_script.specs.Generator.{texts, round_text, round_draws}
 use Rattle.ck_script.proofs.generator.put_rounds.Given as goal
 
 abbrev pub invariant-loop-done : goal.invariant-loop-done

@@ -1,4 +1,4 @@
-use Rattle.std.proofs.Common.{◌≡◌, subst, sym, ap, ◌∙◌, Ok, IsTrue}
+use Rattle.std.proofs.Common.{◌≡◌, subst, sym, ◌∙◌, Ok, IsTrue}
 use Rattle.std.specs.List.{AllByRecursion}
 use Rattle.std.proofs.lemmas.Result.{err_from_is_err_and}
 use Rattle.ck_script.specs.declared.form.Form.TheVariants.{Called}
