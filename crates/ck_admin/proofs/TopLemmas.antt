@@ -1,5 +1,5 @@
 -- What is printed of a play.
-use Rattle.std.proofs.Common.{◌≡◌, ◌≤◌, ◌+◌, Bool, true, false, ℕ, IsTrue, List, [], ◌∷◌, Result, Ok, Err, OnOk, IfErr, inl, inr, refl, subst, arith, if◌then◌else◌}
+use Rattle.std.proofs.Common.{◌≡◌, ◌≤◌, ◌+◌, Bool, true, false, ℕ, IsTrue, List, [], ◌∷◌, Result, Ok, Err, OnOk, IfErr, inl, inr, refl, arith, if◌then◌else◌}
 use Rattle.std.specs.Prelude.{◌||◌}
 use Rattle.ck_disk.specs.Disk.{Meaning, Rose}
 use Rattle.ck_model.specs.declared.entry.Entry.{Entry}
