@@ -18,7 +18,7 @@ use Rattle.ck_record.specs.declared.records.Record.{Record}
 use Rattle.ck_area.specs.Area.{Area, entries_by, entries_in, filesets_by, filesets_in}
 use Rattle.ck_area.specs.Damage.{data_upto}
 use Rattle.ck_area.specs.Known.{column_order, is_home, found_at_home}
-use Rattle.ck_area.proofs.OrderLemmas.{derived_key}
+use Rattle.ck_area.proofs.OrderLemmas.{derived_key, both_equal}
 use Rattle.ck_area.proofs.SlotLemmas.{entries_more, filesets_more}
 
 cond_or : {X : Type 0} (b : Bool) (v : X) (o p : Option X) → cond b (Some v) (option_or o p) ≡ option_or (cond b (Some v) o) p
@@ -56,11 +56,6 @@ module _ (area : Area) (at : ℕ) (slot : Option Record) (within : at < length a
       ∙ ap (λ b. b || data_upto (filesets_by slot) fs) h
 
 -- ---- one entry
-
-both_equal : (o p : Ordering) → is_eq (ordering_then o p) ≡ (is_eq o && is_eq p)
-both_equal Less p = refl
-both_equal Equal p = refl
-both_equal Greater p = refl
 
 turned : (a b : Bool) → (a && b) ≡ (b && a)
 turned true true = refl
