@@ -1,8 +1,7 @@
 -- The checkpoints and entries of a table, found in its slots.
 use Rattle.std.proofs.Common.{◌≡◌, ℕ, ◌+◌, ◌<◌, Bool, true, false, cond, ◌&&◌, ◌||◌, not, Option, Some, None, List, [], ◌∷◌, ◌++◌, length, take, get_or, is_some, nat_le, refl, sym, ap, ◌∙◌}
 use Rattle.std.specs.declared.cmp.Ordering.{Ordering}
-use Rattle.std.specs.declared.cmp.Ordering.TheVariants.{Less, Equal, Greater}
-use Rattle.std.specs.Ordering.{nat_cmp, is_eq, eq_by_cmp, ordering_then}
+use Rattle.std.specs.Ordering.{nat_cmp, is_eq, eq_by_cmp}
 use Rattle.std.specs.Option.{option_or}
 use Rattle.std.specs.FinMap.{find}
 use Rattle.std.proofs.lemmas.List.Folds.{list_any-append}
@@ -18,7 +17,7 @@ use Rattle.ck_record.specs.declared.records.Record.{Record}
 use Rattle.ck_area.specs.Area.{Area, entries_by, entries_in, filesets_by, filesets_in}
 use Rattle.ck_area.specs.Damage.{data_upto}
 use Rattle.ck_area.specs.Known.{column_order, is_home, found_at_home}
-use Rattle.ck_area.proofs.OrderLemmas.{derived_key}
+use Rattle.ck_area.proofs.OrderLemmas.{derived_key, both_equal}
 use Rattle.ck_area.proofs.SlotLemmas.{entries_more, filesets_more}
 
 cond_or : {X : Type 0} (b : Bool) (v : X) (o p : Option X) → cond b (Some v) (option_or o p) ≡ option_or (cond b (Some v) o) p
@@ -56,11 +55,6 @@ module _ (area : Area) (at : ℕ) (slot : Option Record) (within : at < length a
       ∙ ap (λ b. b || data_upto (filesets_by slot) fs) h
 
 -- ---- one entry
-
-both_equal : (o p : Ordering) → is_eq (ordering_then o p) ≡ (is_eq o && is_eq p)
-both_equal Less p = refl
-both_equal Equal p = refl
-both_equal Greater p = refl
 
 turned : (a b : Bool) → (a && b) ≡ (b && a)
 turned true true = refl

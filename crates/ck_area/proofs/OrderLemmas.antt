@@ -37,7 +37,7 @@ same_places x y = ap (λ o. is_eq (ordering_then (nat_cmp x.0 y.0) o)) (derived_
 abbrev pub version_order : Key × ℕ → Key × ℕ → Ordering
 version_order x y = ordering_then ((ghosts).cmp x.0 y.0) (nat_cmp x.1 y.1)
 
-both_equal : (o p : Ordering) → is_eq (ordering_then o p) ≡ (is_eq o && is_eq p)
+pub both_equal : (o p : Ordering) → is_eq (ordering_then o p) ≡ (is_eq o && is_eq p)
 both_equal Less p = refl
 both_equal Equal p = refl
 both_equal Greater p = refl

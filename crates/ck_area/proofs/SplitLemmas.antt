@@ -23,9 +23,6 @@ or_false : (b : Bool) → (b || false) ≡ b
 or_false true = refl
 or_false false = refl
 
-or_none_of : (a b c : Bool) → b ≡ c → (a || b) ≡ (a || c)
-or_none_of a b c h = ap (λ x. a || x) h
-
 -- ---- what lower slots have, slot by slot
 
 module _ {K : Type 0} (same : K → K → Bool) (part : Option Record → Option K) (x : K) where
@@ -196,9 +193,6 @@ counters_parts false = refl
 none_below : {K : Type 0} (o : Option K) → option_map_or (λ _. false) o false ≡ false
 none_below None = refl
 none_below (Some x) = refl
-
-first_entry_parts : (version again : Bool) → version ≡ false → again ≡ false → true ≡ ((true || false) || ((((false || version) || again) || false) || false))
-first_entry_parts version again h k = refl
 
 not_crowded : (gone : Bool) → (not gone && nat_le 64 0) ≡ false
 not_crowded true = refl

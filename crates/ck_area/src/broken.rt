@@ -61,7 +61,8 @@ fn first_broken(
     Ok(earlier(earlier(alone, crowd), earlier(again, whole)))
 }
 
-/// The lowest slot that breaks a rule of a table with so many data blocks and records.
+/// The lowest slot that breaks a rule of a table with so many data blocks and records. Slots are
+/// counted from 0 through the table's blocks.
 pub fn first_damage(
     alloc: Global,
     blocks: u32,

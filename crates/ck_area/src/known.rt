@@ -137,6 +137,7 @@ impl Known {
     ghost use Rattle.ck_area.specs.Area.{table_of};
     ghost use Rattle.ck_area.specs.Known.{Knows};
 
+    /// What there is to know of the table in these slots.
     pub fn of(alloc: Global, area: &[Option<Record>]) -> Result<Known, NoMemory>
         ensures { IfOk result (λ known. (blocks records : ℕ)
             → Knows (table_of blocks records area.now) (filesets_in area.now) known) }
