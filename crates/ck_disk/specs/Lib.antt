@@ -1,5 +1,6 @@
 pub mod Disk
 pub mod FuseDisk
+pub mod FileDisk
 pub mod MemRecord
 pub mod MemLaws
 pub mod MemDisk

@@ -2,6 +2,7 @@
 #![tactic(auto)]
 
 mod disk;
+mod file_disk;
 mod fuse_disk;
 mod mem_disk;
 mod memory;
@@ -9,6 +10,7 @@ mod memory;
 mod tests;
 
 pub use disk::{Block, Disk, Failed};
+pub use file_disk::FileDisk;
 pub use fuse_disk::FuseDisk;
 pub use mem_disk::{MemDisk, Torn};
 pub use memory::NoMemory;

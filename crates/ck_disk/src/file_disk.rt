@@ -1,0 +1,114 @@
+// A disk over a file of the system. What the file holds is known to the system alone, so nothing is promised of it.
+ghost use Rattle.std.specs.Prelude.{◌≡◌, ◌<◌, ◌^◌, IfOk};
+
+use crate::disk::{Block, Disk, Failed};
+use std::fs::{File, OpenOptions};
+use std::io;
+use std::os::unix::fs::FileExt;
+use std::rt::Files;
+
+/// How many bytes a block has in the file.
+const BLOCK_BYTES: u64 = 4096;
+
+impl From<io::Error> for Failed {
+    fn from(_error: io::Error) -> Failed {
+        Failed
+    }
+}
+
+/// A disk over a file: block `at` is the 4,096 bytes from byte `at * 4096` on. It tells nothing of its content. That
+/// reads give what was written, and that a sync makes it safe from a crash, is trusted of the system. Nobody else may
+/// change the file meanwhile; a block that such a change cuts off fails to be read.
+#[derive(Drop)]
+pub struct FileDisk {
+    file: File,
+    size: u32,
+    read_faults: u64,
+    write_faults: u64,
+    ghost fits: { size < 2 ^ 32 },
+}
+
+impl FileDisk {
+    ghost use Rattle.ck_disk.specs.FileDisk.{meaning, faults_of};
+
+    /// A disk over the file at this path, opened for reading and writing. It has as many blocks as are whole in the
+    /// file, and at most 4,294,967,295. It fails where no file is there, where a folder is, where the file may not be
+    /// both read and written, and where the system refuses for another cause. It makes no file and changes none.
+    pub fn open_image<R: Files<File = File>>(rt: &R, path: &str) -> Result<FileDisk, Failed>
+        ensures no_faults { IfOk result (λ disk. faults_of disk ≡ (0, 0)) }
+    {
+        let file = OpenOptions::new().read(true).write(true).open(rt, path)?;
+        let blocks = file.metadata()?.len() / BLOCK_BYTES;
+        Ok(FileDisk::over(file, u32::try_from(blocks).unwrap_or(u32::MAX)))
+    }
+
+    /// A disk over a new file of so many blocks of zeros at this path. It fails where anything is at the path already,
+    /// which it leaves as it is, and where the system refuses the file or its length. A file whose length was refused
+    /// stays, with no block.
+    pub fn create<R: Files<File = File>>(
+        rt: &R,
+        path: &str,
+        blocks: u32,
+    ) -> Result<FileDisk, Failed>
+        ensures blocks { IfOk result (λ disk. (meaning disk).size ≡ blocks) }
+        ensures no_faults { IfOk result (λ disk. faults_of disk ≡ (0, 0)) }
+    {
+        let file = File::create_new(rt, path)?;
+        file.set_len(u64::from(blocks) * BLOCK_BYTES)?;
+        Ok(FileDisk::over(file, blocks))
+    }
+
+    fn over(file: File, size: u32) -> FileDisk
+        ensures blocks { (meaning result).size ≡ size }
+        ensures no_faults { faults_of result ≡ (0, 0) }
+    {
+        FileDisk {
+            file,
+            size,
+            read_faults: 0,
+            write_faults: 0,
+        }
+    }
+}
+
+/// Where a block begins in the file.
+fn offset_of(at: u32) -> u64 {
+    u64::from(at) * BLOCK_BYTES
+}
+
+impl Disk for FileDisk {
+    ghost use Rattle.ck_disk.specs.Silent.{silent_lawful};
+    ghost use Rattle.ck_disk.specs.FileDisk.{meaning};
+
+    ghost means = { meaning };
+
+    ghost lawful = { λ f. silent_lawful f.size f.read_faults f.write_faults f.fits };
+
+    fn blocks(&self) -> u32 {
+        self.size
+    }
+
+    fn read(&mut self, at: u32, into: &mut Block) -> Result<(), Failed> {
+        if self.file.read_exact_at(into, offset_of(at)).is_err() {
+            self.read_faults = self.read_faults.saturating_add(1);
+            return Err(Failed);
+        }
+        Ok(())
+    }
+
+    fn write(&mut self, at: u32, from: &Block) -> Result<(), Failed> {
+        if self.file.write_all_at(from, offset_of(at)).is_err() {
+            self.write_faults = self.write_faults.saturating_add(1);
+            return Err(Failed);
+        }
+        Ok(())
+    }
+
+    fn sync(&mut self) -> Result<(), Failed> {
+        if self.file.sync_all().is_err() {
+            self.write_faults = self.write_faults.saturating_add(1);
+            return Err(Failed);
+        }
+        Ok(())
+    }
+}
