@@ -1,5 +1,6 @@
 // A disk over a file of the system. What the file holds is known to the system alone, so nothing is promised of it.
-ghost use Rattle.std.specs.Prelude.{◌≡◌, ◌<◌, ◌^◌, IfOk};
+ghost use Rattle.std.specs.Prelude.{◌≡◌, ◌<◌, ◌≤◌, ◌*◌, ◌/◌, ◌-◌, ◌^◌, ℕ, List, min, [], get_or, set, IsTrue, IfOk, OnOk, OnErr};
+ghost use Rattle.ck_disk.specs.Disk.{Step, Within, TearsAt, Only, IsSynced, Rose, KeepsClean, KeepsCleanBut};
 
 use crate::disk::{Block, Disk, Failed};
 use std::fs::{File, OpenOptions};
@@ -71,14 +72,23 @@ impl FileDisk {
     }
 }
 
+/// How many blocks so many bytes hold, as far as a disk can have them.
+fn whole_blocks(bytes: u64) -> u32
+    ensures { result ≡ min (bytes / 4096) (2 ^ 32 - 1) }
+{
+    u32::try_from(bytes / BLOCK_BYTES).unwrap_or(u32::MAX)
+}
+
 /// Where a block begins in the file.
-fn offset_of(at: u32) -> u64 {
+fn offset_of(at: u32) -> u64
+    ensures { result ≡ at * 4096 }
+{
     u64::from(at) * BLOCK_BYTES
 }
 
 impl Disk for FileDisk {
     ghost use Rattle.ck_disk.specs.Silent.{silent_lawful};
-    ghost use Rattle.ck_disk.specs.FileDisk.{meaning};
+    ghost use Rattle.ck_disk.specs.FileDisk.{meaning, faults_of, one_read_more, one_write_more};
 
     ghost means = { meaning };
 
@@ -88,7 +98,21 @@ impl Disk for FileDisk {
         self.size
     }
 
-    fn read(&mut self, at: u32, into: &mut Block) -> Result<(), Failed> {
+    fn read(&mut self, at: u32, into: &mut Block) -> Result<(), Failed>
+        requires { at < (meaning self.old).size }
+
+        // The clauses of every disk.
+        ensures bytes { OnOk result (IsTrue (meaning self.old).tells → into.new ≡ get_or (meaning self.old).shows at []) }
+        ensures shows { (meaning self.new).shows ≡ (meaning self.old).shows }
+        ensures crash { Within (meaning self.new).may_leave (meaning self.old).may_leave }
+        ensures marks { KeepsClean (meaning self.old).written (meaning self.new).written }
+        ensures step { Step (meaning self.old) (meaning self.new) }
+        ensures cause { OnErr result (Rose (meaning self.old).read_faults (meaning self.new).read_faults) }
+
+        // It counts its faults, and nothing else.
+        ensures no_fault { OnOk result (faults_of self.new ≡ faults_of self.old) }
+        ensures one_fault { OnErr result (faults_of self.new ≡ one_read_more (faults_of self.old)) }
+    {
         if self.file.read_exact_at(into, offset_of(at)).is_err() {
             self.read_faults = self.read_faults.saturating_add(1);
             return Err(Failed);
@@ -96,7 +120,21 @@ impl Disk for FileDisk {
         Ok(())
     }
 
-    fn write(&mut self, at: u32, from: &Block) -> Result<(), Failed> {
+    fn write(&mut self, at: u32, from: &Block) -> Result<(), Failed>
+        requires { at < (meaning self.old).size }
+
+        // The clauses of every disk.
+        ensures bytes { OnOk result (IsTrue (meaning self.old).tells → (meaning self.new).shows ≡ set (meaning self.old).shows at from.now) }
+        ensures others { IsTrue (meaning self.old).tells → (b : List ℕ) × ((meaning self.new).shows ≡ set (meaning self.old).shows at b) }
+        ensures crash { TearsAt at (meaning self.old).may_leave (meaning self.new).may_leave }
+        ensures marks { KeepsCleanBut at (meaning self.old).written (meaning self.new).written }
+        ensures step { Step (meaning self.old) (meaning self.new) }
+        ensures cause { OnErr result (Rose (meaning self.old).write_faults (meaning self.new).write_faults) }
+
+        // It counts its faults, and nothing else.
+        ensures no_fault { OnOk result (faults_of self.new ≡ faults_of self.old) }
+        ensures one_fault { OnErr result (faults_of self.new ≡ one_write_more (faults_of self.old)) }
+    {
         if self.file.write_all_at(from, offset_of(at)).is_err() {
             self.write_faults = self.write_faults.saturating_add(1);
             return Err(Failed);
@@ -104,7 +142,20 @@ impl Disk for FileDisk {
         Ok(())
     }
 
-    fn sync(&mut self) -> Result<(), Failed> {
+    fn sync(&mut self) -> Result<(), Failed>
+        // The clauses of every disk.
+        ensures durable { OnOk result (IsTrue (meaning self.old).tells → Only (meaning self.old).shows (meaning self.new).may_leave) }
+        ensures shows { (meaning self.new).shows ≡ (meaning self.old).shows }
+        ensures crash { Within (meaning self.new).may_leave (meaning self.old).may_leave }
+        ensures marks { KeepsClean (meaning self.old).written (meaning self.new).written }
+        ensures cleans { OnOk result (IsSynced (meaning self.new)) }
+        ensures step { Step (meaning self.old) (meaning self.new) }
+        ensures cause { OnErr result (Rose (meaning self.old).write_faults (meaning self.new).write_faults) }
+
+        // It counts its faults, and nothing else.
+        ensures no_fault { OnOk result (faults_of self.new ≡ faults_of self.old) }
+        ensures one_fault { OnErr result (faults_of self.new ≡ one_write_more (faults_of self.old)) }
+    {
         if self.file.sync_all().is_err() {
             self.write_faults = self.write_faults.saturating_add(1);
             return Err(Failed);
