@@ -5,6 +5,7 @@ ghost use Rattle.ck_disk.specs.Disk.{Step, Within, TearsAt, Only, IsSynced, Rose
 use crate::disk::{Block, Disk, Failed};
 use std::fs::{File, OpenOptions};
 use std::io;
+use std::os::fd::AsRawFd;
 use std::os::unix::fs::FileExt;
 use std::rt::Files;
 
@@ -39,6 +40,7 @@ impl FileDisk {
         ensures no_faults { IfOk result (λ disk. faults_of disk ≡ (0, 0)) }
     {
         let file = OpenOptions::new().read(true).write(true).open(rt, path)?;
+        let file = off_the_streams(file)?;
         let blocks = file.metadata()?.len() / BLOCK_BYTES;
         Ok(FileDisk::over(file, u32::try_from(blocks).unwrap_or(u32::MAX)))
     }
@@ -54,7 +56,7 @@ impl FileDisk {
         ensures blocks { IfOk result (λ disk. (meaning disk).size ≡ blocks) }
         ensures no_faults { IfOk result (λ disk. faults_of disk ≡ (0, 0)) }
     {
-        let file = File::create_new(rt, path)?;
+        let file = off_the_streams(File::create_new(rt, path)?)?;
         file.set_len(u64::from(blocks) * BLOCK_BYTES)?;
         Ok(FileDisk::over(file, blocks))
     }
@@ -70,6 +72,15 @@ impl FileDisk {
             write_faults: 0,
         }
     }
+}
+
+/// Where a standard stream was closed before, a file that is opened gets its number, and what the program prints would
+/// land in it. So such a file gets another number.
+fn off_the_streams(file: File) -> io::Result<File> {
+    if file.as_raw_fd() <= 2 {
+        return file.try_clone();
+    }
+    Ok(file)
 }
 
 /// How many blocks so many bytes hold, as far as a disk can have them.

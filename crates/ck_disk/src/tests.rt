@@ -3,9 +3,12 @@ ghost use Rattle.std.specs.Prelude.{◌≡◌, ◌<◌, ◌^◌, length, IfOk};
 ghost use Rattle.ck_disk.specs.MemDisk.{meaning};
 ghost use Rattle.ck_disk.specs.Silent.{silent, silent_lawful};
 
-use crate::{Block, Disk, Failed, FuseDisk, MemDisk, NoMemory, Torn};
+use crate::{Block, Disk, Failed, FileDisk, FuseDisk, MemDisk, NoMemory, Torn};
 use std::alloc::Global;
+use std::fs::{self, OpenOptions};
+use std::path::PathBuf;
 use std::test::Fail;
+use std::{env, io, process};
 
 /// A disk that tells nothing: it takes each write and keeps none.
 #[derive(Drop)]
@@ -175,4 +178,64 @@ fn a_silent_disk_meets_the_bound(rt: HostRuntime) {
     assert_eq!(rt; fused.blocks(), 3);
     let want = [true, true, true, true, true, false];
     assert_eq!(rt; run(&mut fused, &mut [0; 4096]), want);
+}
+
+/// A new folder for one test, among the system's temporary files.
+fn new_folder(rt: &HostRuntime, test: &str) -> io::Result<PathBuf> {
+    let name = format!(in rt.alloc(); "ck_disk-{test}-{}", process::id(rt.process()))?;
+    let folder = env::temp_dir(rt)?.join(rt.alloc(), name.as_str())?;
+    let _ = fs::remove_dir_all(rt, folder.as_path());
+    fs::create_dir(rt, folder.as_path())?;
+    Ok(folder)
+}
+
+/// The byte that a block is full of. None where there is no such byte, and where the read failed.
+fn byte_of<D: Disk>(disk: &mut D, at: u32) -> Option<u8>
+    requires { at < (D.means disk.old).size }
+    ensures { (D.means disk.new).size ≡ (D.means disk.old).size }
+{
+    let mut block = [0; 4096];
+    if disk.read(at, &mut block).is_err() {
+        return None;
+    }
+    let first = block[0];
+    block.iter().all(|byte| *byte == first).then_some(first)
+}
+
+#[test]
+fn a_file_keeps_what_was_written(rt: HostRuntime) -> Result<(), Fail> {
+    let folder = new_folder(&rt, "keeps")?;
+    let path = folder.join(rt.alloc(), "image")?;
+    let mut made = FileDisk::create(&rt, path.as_str(), 3)?;
+    assert_eq!(rt; byte_of(&mut made, 2), Some(0));
+    assert_eq!(rt; run(&mut made, &mut [0; 4096]), [true; 6]);
+    drop(made);
+    assert!(rt; FileDisk::create(&rt, path.as_str(), 3).is_err());
+    let mut opened = FileDisk::open_image(&rt, path.as_str())?;
+    assert_eq!(rt; opened.blocks(), 3);
+    assert_eq!(rt; byte_of(&mut opened, 0), Some(1));
+    assert_eq!(rt; byte_of(&mut opened, 1), Some(2));
+    assert_eq!(rt; byte_of(&mut opened, 2), Some(3));
+    fs::remove_dir_all(&rt, folder.as_path())?;
+    Ok(())
+}
+
+#[test]
+fn a_file_may_be_too_short_or_missing(rt: HostRuntime) -> Result<(), Fail> {
+    let folder = new_folder(&rt, "short")?;
+    let path = folder.join(rt.alloc(), "image")?;
+    assert!(rt; FileDisk::open_image(&rt, folder.as_str()).is_err());
+    assert!(rt; FileDisk::open_image(&rt, path.as_str()).is_err());
+    assert!(rt; !fs::exists(&rt, path.as_path())?);
+    fs::write(&rt, path.as_path(), [7u8; 9000].as_slice())?;
+    let mut disk = FileDisk::open_image(&rt, path.as_str())?;
+    assert_eq!(rt; disk.blocks(), 2, "the last 808 bytes are no block");
+    let file = OpenOptions::new().write(true).open(&rt, path.as_path())?;
+    file.set_len(5000)?;
+    assert_eq!(rt; byte_of(&mut disk, 0), Some(7));
+    assert_eq!(rt; disk.read(1, &mut [0; 4096]), Err(Failed));
+    assert_eq!(rt; disk.write(1, &[8; 4096]), Ok(()));
+    assert_eq!(rt; byte_of(&mut disk, 1), Some(8));
+    fs::remove_dir_all(&rt, folder.as_path())?;
+    Ok(())
 }
