@@ -41,8 +41,8 @@ impl FileDisk {
     {
         let file = OpenOptions::new().read(true).write(true).open(rt, path)?;
         let file = off_the_streams(file)?;
-        let blocks = file.metadata()?.len() / BLOCK_BYTES;
-        Ok(FileDisk::over(file, u32::try_from(blocks).unwrap_or(u32::MAX)))
+        let bytes = file.metadata()?.len();
+        Ok(FileDisk::over(file, whole_blocks(bytes)))
     }
 
     /// A disk over a new file of so many blocks of zeros at this path. It fails where anything is at the path already,
