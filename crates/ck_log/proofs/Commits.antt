@@ -1,14 +1,11 @@
 -- A commit call by call.
-use Rattle.std.proofs.Common.{◌≡◌, ◌≢◌, ◌-◌, ◌⊎◌, inl, ⊎_elim, ◌==◌, ℕ, Bool, false, IsTrue, not, List, [], length, map, refl, sym, ◌∙◌, ap, subst}
-use Rattle.std.specs.List.{range_with_len}
+use Rattle.std.proofs.Common.{◌≡◌, ◌≢◌, ◌-◌, ◌⊎◌, inl, ⊎_elim, ◌==◌, ℕ, Bool, false, IsTrue, not, [], length, refl, sym, ◌∙◌, ap, subst}
 use Rattle.std.proofs.lemmas.Bool.{false≢true}
-use Rattle.std.proofs.lemmas.List.{length-map}
-use Rattle.std.proofs.lemmas.List.FromFn.{length-range_with_len}
 use Rattle.ck_disk.specs.Disk.{Image, Meaning, Lawful, LeavesOnly, Reaches, Outside, Agrees, IsSynced}
 use Rattle.ck_disk.proofs.Moments.{weakens, joins, now, synced_only, agrees_less, agrees_on}
 use Rattle.ck_log.specs.Layout.{Layout, table_blocks, area_at, base_of}
 use Rattle.ck_log.specs.Images.{part, table_on, HasTable, HasBefore, HasAfter, Settled}
-use Rattle.ck_log.specs.Group.{IsGroup}
+use Rattle.ck_log.specs.Group.{IsWhole}
 use Rattle.ck_log.proofs.Areas.{outside_area, others_gate}
 use Rattle.ck_log.proofs.Phases.{staged, opened}
 
@@ -19,16 +16,13 @@ told_on old new same told = subst (λ (b : Bool). IsTrue b) (sym same) told
 pub some_blocks : (n : ℕ) → false ≡ (n == 0) → n ≢ 0
 some_blocks n test none = absurd (false≢true (test ∙ ap (λ (m : ℕ). m == 0) none))
 
--- a group that isn't empty has as many blocks as the table
-pub group_blocks : (layout : Layout) (entries : List (ℕ × List ℕ)) → IsGroup layout (map (λ e. e.0) entries) → length (map (λ (e : ℕ × List ℕ). e.1) entries) ≢ 0
-    → length (map (λ (e : ℕ × List ℕ). e.1) entries) ≡ table_blocks layout.records
-group_blocks layout entries group some =
-    let same : length (map (λ (e : ℕ × List ℕ). e.1) entries) ≡ length (map (λ (e : ℕ × List ℕ). e.0) entries) =
-    length-map entries (λ (e : ℕ × List ℕ). e.1) ∙ sym (length-map entries (λ (e : ℕ × List ℕ). e.0)) in
+-- blocks that are there are as many as the table's
+pub whole_blocks : (layout : Layout) (table : Image) → IsWhole layout table → length table ≢ 0 → length table ≡ table_blocks layout.records
+whole_blocks layout table whole some =
     ⊎_elim
-    (λ (none : map (λ (e : ℕ × List ℕ). e.0) entries ≡ []). absurd (some (same ∙ ap length none)))
-    (λ (all : map (λ (e : ℕ × List ℕ). e.0) entries ≡ range_with_len 0 (table_blocks layout.records)). same ∙ ap length all ∙ length-range_with_len 0 (table_blocks layout.records))
-    group
+    (λ (none : table ≡ []). absurd (some (ap length none)))
+    (λ (all : length table ≡ table_blocks layout.records). all)
+    whole
 
 -- what reads give outside the gate and both areas
 pub others_after_run : (layout : Layout) (second : Bool) (free n : ℕ) (d c : Image) → free ≡ area_at layout.records second → n ≡ table_blocks layout.records → Agrees (Outside free n) d c → Agrees (Outside 1 (base_of layout.records - 1)) d c

@@ -1,12 +1,11 @@
--- A group of table blocks that are committed together.
-use Rattle.std.specs.Prelude.{◌≡◌, ◌⊎◌, ℕ, List, [], ◌∷◌}
-use Rattle.std.specs.List.{range_with_len}
+-- The blocks of a table that are committed together.
+use Rattle.std.specs.Prelude.{◌≡◌, ◌⊎◌, [], ◌∷◌, length}
 use Rattle.ck_disk.specs.Disk.{Image}
 use Rattle.ck_log.specs.Layout.{Layout, table_blocks}
 
--- the numbers of the group's blocks: none, or all of the table's in ascending order
-abbrev pub IsGroup : Layout → List ℕ → Type 0
-IsGroup layout numbers = (numbers ≡ []) ⊎ (numbers ≡ range_with_len 0 (table_blocks layout.records))
+-- none, or all blocks of a table
+abbrev pub IsWhole : Layout → Image → Type 0
+IsWhole layout table = (table ≡ []) ⊎ (length table ≡ table_blocks layout.records)
 
 -- the table after a commit of these blocks
 abbrev pub table_after : Image → Image → Image

@@ -1,5 +1,4 @@
 ghost use Rattle.std.specs.Prelude.{◌≡◌, ◌≤◌, ◌<◌, ◌-◌, ◌==◌, not, Err, [], length, get_or, slice_index, IsTrue, IfOk, IfErr, OnOk, OnErr};
-ghost use Rattle.indexmap.specs.IndexMap.{keys, values};
 ghost use Rattle.ck_disk.specs.Disk.{LeavesOnly, Agrees, Outside, IsSynced, KeepsClean, Rose};
 ghost use Rattle.ck_log.specs.Layout.{table_blocks, area_at, base_of, size_of};
 ghost use Rattle.ck_log.specs.Images.{recovered_region, table_on, area_of, Settled, CommitLeaves};
@@ -7,7 +6,7 @@ ghost use Rattle.ck_log.specs.Reads.{OnlyReads};
 ghost use Rattle.ck_log.specs.FirstTable.{first_table, new_layout, FormatLeaves};
 ghost use Rattle.ck_log.specs.Header.{Opens, header_of};
 ghost use Rattle.ck_log.specs.Faults.{IsFormatFault, IsOpenFault};
-ghost use Rattle.ck_log.specs.Group.{IsGroup, table_after};
+ghost use Rattle.ck_log.specs.Group.{IsWhole, table_after};
 
 use crate::faults::{FormatLog, OpenLog};
 use crate::gate::{GATE, gate_block, read_gate};
@@ -16,7 +15,6 @@ use crate::layout::{area_at, base, device_blocks, table_blocks};
 use crate::setup::make_volume;
 use crate::writes::{put_block, put_run};
 use ck_disk::{Block, Disk, Failed};
-use indexmap::IndexMap;
 use std::marker::Model;
 
 /// A volume's place on a device. Its table stands in one of two areas, which the gate names; a
@@ -149,6 +147,15 @@ impl Region {
         table_blocks(self.records)
     }
 
+    /// The device's block at which the table begins.
+    #[tactic(auto, unfolding(crate::specs::Layout::first_area))]
+    pub fn area(&self) -> u32
+        ensures value { result ≡ area_at self.now.records self.now.second }
+        ensures low { result ≤ 8204 }
+    {
+        area_at(self.records, self.second)
+    }
+
     /// Reads a block of the table.
     pub fn read<D: Disk>(&self, disk: &mut D, at: u32, into: &mut Block) -> Result<(), Failed>
         requires within { at < table_blocks self.now.records }
@@ -163,40 +170,34 @@ impl Region {
         disk.read(area_at(self.records, self.second) + at, into)
     }
 
-    /// Puts the group in place of the table. A stop at any moment leaves the table from before or
-    /// the group.
-    pub fn commit<D: Disk>(
-        &mut self,
-        disk: &mut D,
-        group: &IndexMap<u32, Block>,
-    ) -> Result<(), Failed>
+    /// Puts these blocks in place of the table, if there are any. A stop at any moment leaves the
+    /// table from before or these.
+    pub fn commit<D: Disk>(&mut self, disk: &mut D, table: &[Block]) -> Result<(), Failed>
         requires size { size_of self.old.blocks self.old.records ≤ (D.means disk.old).size }
-        requires group { IsGroup self.old (keys group.now) }
+        requires whole { IsWhole self.old table.now }
 
         // As a format, an opening or a commit that answered Ok left it.
         requires settled { Settled self.old (D.means disk.old) }
 
         ensures any_moment { LeavesOnly (D.means disk.old) (D.means disk.new)
             (CommitLeaves self.old
-            (table_after (table_on self.old (D.means disk.old).shows) (values group.now))
+            (table_after (table_on self.old (D.means disk.old).shows) table.now)
             (D.means disk.old)) }
         ensures table { OnOk result
             (IsTrue (D.means disk.old).tells
             → table_on self.new (D.means disk.new).shows
-            ≡ table_after (table_on self.old (D.means disk.old).shows) (values group.now)) }
+            ≡ table_after (table_on self.old (D.means disk.old).shows) table.now) }
         ensures settled { OnOk result (Settled self.new (D.means disk.new)) }
         ensures others { IsTrue (D.means disk.old).tells
             → Agrees (Outside 1 (base_of self.old.records - 1)) (D.means disk.old).shows
             (D.means disk.new).shows }
-        ensures synced { OnOk result (0 < length (values group.now) → IsSynced (D.means disk.new)) }
-        ensures empty { values group.now ≡ [] → disk.new ≡ disk.old }
+        ensures synced { OnOk result (0 < length table.now → IsSynced (D.means disk.new)) }
+        ensures empty { table.now ≡ [] → disk.new ≡ disk.old }
         ensures region { self.new ≡ record self.old { second = self.new.second } }
         ensures same { OnErr result (self.new ≡ self.old) }
         ensures cause { OnErr result
             (Rose (D.means disk.old).write_faults (D.means disk.new).write_faults) }
     {
-        let values = group.values();
-        let table = values.as_slice();
         if table.is_empty() {
             return Ok(());
         }

@@ -69,3 +69,16 @@ fn only_a_volume_is_opened(rt: HostRuntime) -> Result<(), Fail> {
     assert_eq!(rt; Region::open_on(&mut disk).err(), Some(OpenLog::NotVolume));
     Ok(())
 }
+
+#[test]
+fn a_committed_table_is_found_again(rt: HostRuntime) -> Result<(), Fail> {
+    let mut disk = device(rt.alloc(), 85, 0)?;
+    let mut region = Region::format(&mut disk, 64, 256)?;
+    let table = vec![in rt.alloc(); [7; 4096]; 9]?;
+    region.commit(&mut disk, &table)?;
+    let found = Region::open_on(&mut disk)?;
+    let mut block = [0; 4096];
+    found.read(&mut disk, 0, &mut block)?;
+    assert_eq!(rt; block[4095], 7);
+    Ok(())
+}
