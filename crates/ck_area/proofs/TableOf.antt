@@ -142,6 +142,21 @@ with_counters_fits blocks records c area none =
     let counted = count_fine blocks records all (Some (CountersRecord c)) [] area (all_fine blocks records all none).1 in
     omega (arith, counted, no_more blocks records all)
 
+with_counters_few : (blocks records : ℕ) (c : Counters) (area : Area) → damage blocks records (Some (CountersRecord c) ∷ area) ≡ None → length (entries_in area) + length (filesets_in area) ≤ records
+with_counters_few blocks records c area none =
+    let all = Some (CountersRecord c) ∷ area in
+    let counted = count_fine blocks records all (Some (CountersRecord c)) [] area (all_fine blocks records all none).1 in
+    omega (arith, counted)
+
+-- no more slots have entries and filesets than the limit says
+pub undamaged_few : (blocks records : ℕ) (area : Area) → damage blocks records area ≡ None → length (entries_in area) + length (filesets_in area) ≤ records
+undamaged_few blocks records [] none = omega arith
+undamaged_few blocks records (x ∷ area) none =
+    let first = counters_first blocks records x area none in
+    let c = unwrap_or (counters_by x) no_counters in
+    subst (λ y. length (entries_in (y ∷ area)) + length (filesets_in (y ∷ area)) ≤ records) (sym first)
+    (with_counters_few blocks records c area (subst (λ y. damage blocks records (y ∷ area) ≡ None) first none))
+
 pub undamaged_fits : (blocks records : ℕ) (area : Area) → damage blocks records area ≡ None → record_count (table_of blocks records area) ≤ records
 undamaged_fits blocks records [] none = let count = no_more blocks records [] in omega (arith, count)
 undamaged_fits blocks records (x ∷ area) none =

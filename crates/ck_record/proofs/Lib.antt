@@ -1,3 +1,4 @@
 pub mod SpelledLemmas
 pub mod ReadingLemmas
 pub mod OneRecord
+pub mod LengthLemmas

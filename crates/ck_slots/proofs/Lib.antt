@@ -6,3 +6,8 @@ pub mod EntryLemmas
 pub mod IdLemmas
 pub mod TableLemmas
 pub mod FormattedLemmas
+pub mod SpellingLemmas
+pub mod BuildingLemmas
+pub mod OpenedLemmas
+pub mod CommitLemmas
+pub mod ExtentLemmas

@@ -6,3 +6,7 @@ pub mod Recorded
 pub mod Lawful
 pub mod Slots
 pub mod Formatted
+pub mod Written
+pub mod Committed
+pub mod Opened
+pub mod Building

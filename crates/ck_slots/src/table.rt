@@ -1,18 +1,43 @@
-ghost use Rattle.std.specs.Prelude.{◌≡◌, ◌≤◌, ◌<◌, true, Some, IfOk, slice_get, vec_capacity};
+ghost use Rattle.std.specs.Prelude.{◌≡◌, ◌≤◌, ◌<◌, ◌-◌, true, Some, None, IsTrue, IfOk, IfErr, OnOk, OnErr, slice_get, vec_capacity};
 ghost use Rattle.std.specs.Ordering.{nat_cmp};
 ghost use Rattle.std.specs.FinMap.{is_sorted};
 ghost use Rattle.std.specs.FinMap as map;
+ghost use Rattle.ck_disk.specs.Disk.{Agrees, Outside, IsSynced};
+ghost use Rattle.ck_log.specs.Layout.{base_of, size_of};
+ghost use Rattle.ck_log.specs.Images.{table_on, Settled};
+ghost use Rattle.ck_log.specs.Reads.{OnlyReads};
 ghost use Rattle.ck_model.specs.Rules.{IsSound};
+ghost use Rattle.ck_model.specs.Standing.{extents_of};
 ghost use Rattle.ck_model.specs.Table.{IsTable, IsSized};
-ghost use Rattle.ck_slots.specs.Formatted.{formatted_table, StandsForEmpty};
+ghost use Rattle.ck_area.specs.Area.{new_table, table_of as area_table};
+ghost use Rattle.ck_area.specs.Damage.{damage};
+ghost use Rattle.ck_slots.specs.Building.{AreRecords};
+ghost use Rattle.ck_slots.specs.Committed.{Commits, IsCommitFault};
+ghost use Rattle.ck_slots.specs.Formatted.{StandsForEmpty};
+ghost use Rattle.ck_slots.specs.Opened.{IsBuilt, IsOpened, IsOpenFault};
 ghost use Rattle.ck_slots.specs.Lawful.{table_of, IsTable-prop};
 
+use crate::building::{counters_from, entries_from, filesets_from};
 use crate::entries::Entries;
 use crate::filesets::{look, next_id, set, unset};
+use crate::opening::{OpenSlots, check_slots, read_slots};
+use crate::writing::{push_named, spell_blocks};
+use ck_disk::Disk;
+use ck_log::Region;
 use ck_model::{Counters, Fileset, Held, Key, Meta, NoMemory, Small};
+use ck_record::Record;
 use std::alloc::Global;
 
-/// The table of a volume in memory. It takes all its memory where it is made.
+/// Why a table wasn't committed.
+#[derive(Clone, Copy, Debug, PartialEq, Eq)]
+pub enum CommitFault {
+    /// A write or a sync failed.
+    WriteFault,
+    /// Nothing was written.
+    NoMemory,
+}
+
+/// The table of a volume in memory. What changes it takes no memory.
 #[derive(Drop)]
 pub struct Slots {
     entries: Entries,
@@ -28,16 +53,15 @@ pub struct Slots {
 impl Slots {
     ghost use Rattle.ck_slots.specs.Slots.{table_in};
 
-    /// The table of a new volume with so many data blocks and room for so many records.
-    pub fn formatted(alloc: Global, blocks: u32, records: u32) -> Result<Slots, NoMemory>
-        requires some_blocks { 1 ≤ blocks }
-        requires blocks { blocks ≤ 65536 }
-        requires some_records { 32 ≤ records }
-        requires records { records ≤ 262144 }
-        ensures table { IfOk result (λ slots. table_in slots ≡ formatted_table blocks records) }
+    /// The table of a new volume, as `Region::format` writes it into its region.
+    pub fn format(alloc: Global, region: &Region) -> Result<Slots, NoMemory>
+        ensures table { IfOk result
+            (λ slots. table_in slots ≡ new_table region.now.blocks region.now.records) }
         ensures sound { IfOk result (λ slots. IsSound (table_in slots)) }
         ensures world { IfOk result (λ slots. StandsForEmpty (table_in slots)) }
     {
+        let blocks = region.blocks();
+        let records = region.records();
         let mut entries = Entries::new(alloc, records)?;
         entries.put(0, &Key::Node(0), Held::Plain(0, Small::Dir));
         Ok(Slots {
@@ -50,6 +74,108 @@ impl Slots {
             },
             blocks,
         })
+    }
+
+    /// The table that was committed last to its region.
+    pub fn open<D: Disk>(
+        alloc: Global,
+        region: &Region,
+        disk: &mut D,
+    ) -> Result<Slots, OpenSlots>
+        requires size { size_of region.now.blocks region.now.records ≤ (D.means disk.old).size }
+        ensures sound { IfOk result (λ slots. IsSound (table_in slots)) }
+        ensures table { IfOk result
+            (λ slots. IsTrue (D.means disk.old).tells
+            → IsOpened region.now (D.means disk.old) (table_in slots)) }
+        ensures sizes { IfOk result
+            (λ slots. ((table_in slots).blocks ≡ region.now.blocks)
+            × ((table_in slots).records ≡ region.now.records)) }
+        ensures built { IfOk result (λ slots. IsBuilt (table_in slots)) }
+        ensures refused { IfErr result
+            (IsOpenFault region.now (D.means disk.old) (D.means disk.new)) }
+        ensures device { OnlyReads (D.means disk.old) (D.means disk.new) }
+    {
+        let area = read_slots(alloc, region, disk)?;
+        check_slots(alloc, region, &area)?;
+        let slots = Slots::build(alloc, region, &area)?;
+        Ok(slots)
+    }
+
+    /// The table of slots without damage.
+    fn build(alloc: Global, region: &Region, area: &[Option<Record>]) -> Result<Slots, NoMemory>
+        requires undamaged { damage region.now.blocks region.now.records area.now ≡ None }
+        requires within_limits { AreRecords area.now }
+        ensures table { IfOk result
+            (λ slots. table_in slots ≡ area_table region.now.blocks region.now.records area.now) }
+    {
+        let blocks = region.blocks();
+        let records = region.records();
+        let entries = entries_from(alloc, records, area)?;
+        let filesets = filesets_from(alloc, records, area)?;
+        Ok(Slots {
+            entries,
+            filesets,
+            counters: counters_from(area),
+            blocks,
+        })
+    }
+
+    /// Writes the table into its region. A stop at any moment leaves the table from before or this
+    /// one. After a write fault the region may have either, until it is opened again.
+    pub fn commit<D: Disk>(
+        &self,
+        alloc: Global,
+        region: &mut Region,
+        disk: &mut D,
+    ) -> Result<(), CommitFault>
+        requires blocks { (table_in self.now).blocks ≡ region.old.blocks }
+        requires records { (table_in self.now).records ≡ region.old.records }
+        requires size { size_of region.old.blocks region.old.records
+            ≤ (D.means disk.old).size }
+
+        // As a format, an opening or a commit that answered Ok left it.
+        requires settled { Settled region.old (D.means disk.old) }
+
+        ensures commits { Commits region.old (table_in self.now) (D.means disk.old)
+            (D.means disk.new)
+            (λ after. OnOk result
+            (IsTrue (D.means disk.old).tells
+            → table_on region.new (D.means disk.new).shows ≡ after)) }
+        ensures settled { OnOk result (Settled region.new (D.means disk.new)) }
+        ensures synced { OnOk result (IsSynced (D.means disk.new)) }
+        ensures others { IsTrue (D.means disk.old).tells
+            → Agrees (Outside 1 (base_of region.old.records - 1))
+            (D.means disk.old).shows (D.means disk.new).shows }
+        ensures region { region.new
+            ≡ record region.old { second = region.new.second } }
+        ensures kept { OnErr result (region.new ≡ region.old) }
+        ensures same_disk { IfErr result
+            (λ fault. fault ≡ CommitFault.NoMemory → disk.new ≡ disk.old) }
+        ensures fault { IfErr result
+            (IsCommitFault (D.means disk.old) (D.means disk.new)) }
+    {
+        let count = region.table_blocks();
+        let blocks = match spell_blocks(alloc, self, count) {
+            Ok(blocks) => blocks,
+            Err(_) => return Err(CommitFault::NoMemory),
+        };
+        match region.commit(disk, &blocks) {
+            Ok(()) => Ok(()),
+            Err(_) => Err(CommitFault::WriteFault),
+        }
+    }
+
+    /// The data blocks that the entries name, in the order of the entries.
+    pub fn extents(&self, alloc: Global) -> Result<Vec<u32>, NoMemory>
+        ensures { IfOk result (λ found. found.items ≡ extents_of (table_in self.now)) }
+    {
+        let count = self.entries.len();
+        let mut found = Vec::with_capacity(alloc, count)?;
+        for at in 0..count {
+            let entry = self.entries.at(at);
+            push_named(&mut found, &entry.2);
+        }
+        Ok(found)
     }
 
     pub fn blocks(&self) -> u32

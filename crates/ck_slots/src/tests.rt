@@ -1,10 +1,31 @@
-ghost use Rattle.std.specs.Prelude.{◌<◌, ◌≤◌};
+ghost use Rattle.std.specs.Prelude.{◌≡◌, ◌<◌, ◌≤◌, IfOk};
+ghost use Rattle.ck_disk.specs.MemDisk.{meaning};
+ghost use Rattle.ck_log.specs.Layout.{IsSized};
 ghost use Rattle.ck_model.specs.Held.{IsEntry};
 ghost use Rattle.ck_model.specs.Name.{IsCheckpointName};
 
 use crate::Slots;
+use ck_disk::{MemDisk, NoMemory};
+use ck_log::{Region, device_blocks};
 use ck_model::{Counters, Fileset, Held, Key, Kind, Meta, NameBytes, Small};
+use std::alloc::Global;
 use std::test::Fail;
+
+/// A device of zeros.
+fn device(alloc: Global, blocks: u32) -> Result<MemDisk, NoMemory>
+    ensures { IfOk result (λ disk. (meaning disk).size ≡ blocks) }
+{
+    MemDisk::new(alloc, blocks, Vec::new(alloc))
+}
+
+/// The table of a new volume on a device of its own.
+fn new_table(alloc: Global, blocks: u32, records: u32) -> Result<Slots, Fail>
+    requires { IsSized blocks records }
+{
+    let mut disk = device(alloc, device_blocks(blocks, records))?;
+    let region = Region::format(&mut disk, blocks, records)?;
+    Ok(Slots::format(alloc, &region)?)
+}
 
 /// Puts where there is room, as any caller of a table would.
 fn put_where_room<M: Meta>(table: &mut M, fs: u32, key: &Key, held: Held) -> bool
@@ -36,7 +57,7 @@ fn put_block(slots: &mut Slots, number: u32, index: u32) -> bool
 
 #[test]
 fn a_new_table_has_the_root_alone(rt: HostRuntime) -> Result<(), Fail> {
-    let slots = Slots::formatted(rt.alloc(), 64, 256)?;
+    let slots = new_table(rt.alloc(), 64, 256)?;
     let root = Key::Node(0);
     let counters = Counters {
         stamp: 1,
@@ -59,7 +80,7 @@ fn a_new_table_has_the_root_alone(rt: HostRuntime) -> Result<(), Fail> {
 
 #[test]
 fn entries_stand_in_order(rt: HostRuntime) -> Result<(), Fail> {
-    let mut slots = Slots::formatted(rt.alloc(), 1, 32)?;
+    let mut slots = new_table(rt.alloc(), 1, 32)?;
     // 7 and 32 have no common factor, so these are the numbers 1 to 31.
     for at in 1..32 {
         assert!(rt; put_file(&mut slots, at * 7 % 32, u64::from(at)));
@@ -80,7 +101,7 @@ fn entries_stand_in_order(rt: HostRuntime) -> Result<(), Fail> {
 
 #[test]
 fn what_is_deleted_leaves_room(rt: HostRuntime) -> Result<(), Fail> {
-    let mut slots = Slots::formatted(rt.alloc(), 1, 32)?;
+    let mut slots = new_table(rt.alloc(), 1, 32)?;
     for number in 1..32 {
         assert!(rt; put_file(&mut slots, number, 1));
     }
@@ -127,7 +148,7 @@ fn put_checkpoint(slots: &mut Slots, id: u32, name: &NameBytes) -> bool
 
 #[test]
 fn checkpoints_stand_by_id(rt: HostRuntime) -> Result<(), Fail> {
-    let mut slots = Slots::formatted(rt.alloc(), 1, 32)?;
+    let mut slots = new_table(rt.alloc(), 1, 32)?;
     let name = NameBytes::read(b"daily").ok_or("daily")?;
     assert!(rt; name.is_checkpoint_name());
     assert!(rt; put_checkpoint(&mut slots, 5, &name));
@@ -148,7 +169,7 @@ fn checkpoints_stand_by_id(rt: HostRuntime) -> Result<(), Fail> {
 
 #[test]
 fn counters_are_set(rt: HostRuntime) -> Result<(), Fail> {
-    let mut slots = Slots::formatted(rt.alloc(), 1, 32)?;
+    let mut slots = new_table(rt.alloc(), 1, 32)?;
     let counters = Counters {
         stamp: 1 << 63,
         id: 7,
@@ -156,5 +177,35 @@ fn counters_are_set(rt: HostRuntime) -> Result<(), Fail> {
     };
     slots.set_counters(counters);
     assert_eq!(rt; slots.counters(), counters);
+    Ok(())
+}
+
+#[test]
+fn what_was_committed_is_opened(rt: HostRuntime) -> Result<(), Fail> {
+    let alloc = rt.alloc();
+    let mut disk = device(alloc, 85)?;
+    let mut region = Region::format(&mut disk, 64, 256)?;
+    let slots = Slots::format(alloc, &region)?;
+    slots.commit(alloc, &mut region, &mut disk)?;
+    let found = Region::open_on(&mut disk)?;
+    let opened = Slots::open(alloc, &found, &mut disk)?;
+    assert_eq!(rt; (opened.blocks(), opened.records()), (64, 256));
+    assert_eq!(rt; opened.counters(), slots.counters());
+    assert_eq!(rt;
+        opened.get(0, &Key::Node(0)),
+        Some(Held::Plain(0, Small::Dir))
+    );
+    assert_eq!(rt; opened.entry_count(), 1);
+    Ok(())
+}
+
+#[test]
+fn extents_stand_in_the_order_of_entries(rt: HostRuntime) -> Result<(), Fail> {
+    let mut slots = new_table(rt.alloc(), 64, 32)?;
+    assert!(rt; put_block(&mut slots, 5, 9));
+    assert!(rt; put_block(&mut slots, 5, 2));
+    assert!(rt; put_file(&mut slots, 5, 1));
+    let named = slots.extents(rt.alloc())?;
+    assert_eq!(rt; named.as_slice(), [2, 9].as_slice());
     Ok(())
 }
