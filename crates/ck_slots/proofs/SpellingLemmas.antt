@@ -102,7 +102,7 @@ spelled_slots n t blocks lawful room long spelled =
           let within : slot < 32 * n = omega (arith, low, count) in
           let there = spelled (slot / 32) (omega (arith, within, long)) (slot % 32) (omega arith) in
           subst (IsReadAs (slot_bytes blocks slot)) (sym (slot_written (32 * n) t slot within room))
-              (sym (there ∙ ap (λ k. spelling (record_in t k)) (omega arith)), record_within t lawful slot);
+          (sym (there ∙ ap (λ k. spelling (record_in t k)) (omega arith)), record_within t lawful slot);
     }
 
 -- ---- such blocks there are

@@ -30,11 +30,7 @@ fn put_entry(entries: &mut Entries, slot: &Option<Record>)
 }
 
 /// The entries in these slots.
-pub fn entries_from(
-    alloc: Global,
-    limit: u32,
-    area: &[Option<Record>],
-) -> Result<Entries, NoMemory>
+pub fn entries_from(alloc: Global, limit: u32, area: &[Option<Record>]) -> Result<Entries, NoMemory>
     requires limit { limit ≤ 262144 }
     requires few { length (entries_in area.now) ≤ limit }
     ensures entries { IfOk result

@@ -73,11 +73,7 @@ pub fn read_slots<D: Disk>(
 }
 
 /// Whether a table may be built of these slots: the error says why not.
-pub fn check_slots(
-    alloc: Global,
-    region: &Region,
-    area: &[Option<Record>],
-) -> Result<(), OpenSlots>
+pub fn check_slots(alloc: Global, region: &Region, area: &[Option<Record>]) -> Result<(), OpenSlots>
     requires { length area.now ≡ 32 * table_blocks region.now.records }
     ensures built { OnOk result (is_unbuilt area.now ≡ false) }
     ensures undamaged { OnOk result

@@ -77,11 +77,7 @@ impl Slots {
     }
 
     /// The table that was committed last to its region.
-    pub fn open<D: Disk>(
-        alloc: Global,
-        region: &Region,
-        disk: &mut D,
-    ) -> Result<Slots, OpenSlots>
+    pub fn open<D: Disk>(alloc: Global, region: &Region, disk: &mut D) -> Result<Slots, OpenSlots>
         requires size { size_of region.now.blocks region.now.records ≤ (D.means disk.old).size }
         ensures sound { IfOk result (λ slots. IsSound (table_in slots)) }
         ensures table { IfOk result

@@ -25,7 +25,7 @@ loop-at-preserved g c =
             let within : c.loop-at.at < length area = omega (arith, area_long region old.shows (omega (arith, law.whole told, c.requires)), c.loop-at-test.true, c.table_blocks-count.ensures.value) in
             ap (λ (blocks : Image). blocks ++ block ∷ []) (read.3 told)
             ∙ ap (λ (b : List ℕ). take c.loop-at.at area ++ b ∷ [])
-                (c.in-Ok.ensures.bytes (subst (λ b. IsTrue b) (sym so_far.device.step.tells) told) ∙ ap (λ (image : Image). get_or (area_of region image) c.loop-at.at []) so_far.device.shows)
+            (c.in-Ok.ensures.bytes (subst (λ b. IsTrue b) (sym so_far.device.step.tells) told) ∙ ap (λ (image : Image). get_or (area_of region image) c.loop-at.at []) so_far.device.shows)
             ∙ sym (take_more area c.loop-at.at [] within),
       );
       device = reads_on old mid (g.D.Disk.means c.read.new.disk) law so_far.device c.read.ensures.device;
