@@ -14,10 +14,21 @@ use Rattle.ck_model.specs.declared.held.Small.TheVariants as small
 use Rattle.ck_model.specs.Cells.{content_at, bytes_in}
 use Rattle.ck_model.specs.Reading.{file_byte}
 use Rattle.ck_model.specs.Values.{Store, Values, cells_on}
-use Rattle.ck_volume.specs.Values.{block_of}
+use Rattle.ck_model.specs.Rules.{block_in}
 use Rattle.ck_volume.specs.Device.{store_on}
 use Rattle.ck_volume.specs.Reading.{bytes_of, part_of, IsFilled, OnlyReads}
-use Rattle.ck_volume.proofs.Walking.{content_on, content-cells_on}
+use Rattle.ck_model.specs.Cells.{Content}
+use Rattle.ck_model.specs.declared.cell.Cell.{Cell}
+use Rattle.std.specs.Option.{option_map}
+use Rattle.ck_model.specs.Values.{cell_on}
+use Rattle.ck_model.proofs.ValuesOf.{get-cells_on}
+
+-- a cell's content over these data blocks
+abbrev pub content_on : Store → Option Held → Content
+content_on store held = option_and_then (λ (cell : Cell). cell.payload) (option_map (cell_on store) held)
+
+pub content-cells_on : (store : Store) (values : Values) (key : Key) → content_at (cells_on store values) key ≡ content_on store (map.get values key)
+content-cells_on store values key = ap (option_and_then (λ (cell : Cell). cell.payload)) (get-cells_on store values key)
 
 -- no read
 pub step_itself : (m : Meaning) → Step m m
@@ -55,10 +66,10 @@ reads_on old mid new law first second = record {
 }
 
 -- the bytes of a cell
-pub bytes-cells_on : (store : Store) (values : Values) (key : Key) → bytes_in (content_at (cells_on store values) key) ≡ bytes_of store (option_and_then block_of (map.get values key))
+pub bytes-cells_on : (store : Store) (values : Values) (key : Key) → bytes_in (content_at (cells_on store values) key) ≡ bytes_of store (option_and_then block_in (map.get values key))
 bytes-cells_on store values key = ap bytes_in (content-cells_on store values key) ∙ alike (map.get values key)
   where
-    alike : (held : Option Held) → bytes_in (content_on store held) ≡ bytes_of store (option_and_then block_of held)
+    alike : (held : Option Held) → bytes_in (content_on store held) ≡ bytes_of store (option_and_then block_in held)
     alike None = refl
     alike (Some Absent) = refl
     alike (Some (Plain stamp (small.To node))) = refl
@@ -113,7 +124,7 @@ part_is store named block from count n is within filled =
 
 -- the part of a file that stands in one block
 part_in_file : (store : Store) (values : Values) (node place count : ℕ) → place % 4096 + count ≤ 4096
-    → part_of store (option_and_then block_of (map.get values (Block node (place / 4096)))) (place % 4096) count ≡ list_map (file_byte (cells_on store values) node) (range_with_len place count)
+    → part_of store (option_and_then block_in (map.get values (Block node (place / 4096)))) (place % 4096) count ≡ list_map (file_byte (cells_on store values) node) (range_with_len place count)
 part_in_file store values node place count within =
     map_shift _ _ (place % 4096) place count (λ k lt.
     let index : place / 4096 ≡ (place + k) / 4096 = omega arith in
@@ -124,7 +135,7 @@ part_in_file store values node place count within =
 
 -- one part more of a file, read while the disk shows the same
 pub range_more : (shows now : Image) (base : ℕ) (values : Values) (node at place count : ℕ) (held : Option Held) (named : Option ℕ) (xs ys : List ℕ) → at ≤ place → place % 4096 + count ≤ 4096
-    → now ≡ shows → held ≡ map.get values (Block node (place / 4096)) → named ≡ option_and_then block_of held
+    → now ≡ shows → held ≡ map.get values (Block node (place / 4096)) → named ≡ option_and_then block_in held
     → xs ≡ list_map (file_byte (cells_on (store_on shows base) values) node) (range_with_len at (place - at))
     → ys ≡ xs ++ part_of (store_on now base) named (place % 4096) count
     → ys ≡ list_map (file_byte (cells_on (store_on shows base) values) node) (range_with_len at (place + count - at))
@@ -133,7 +144,7 @@ range_more shows now base values node at place count held named xs ys above with
     let byte = file_byte (cells_on store values) node in
     let start : place ≡ at + (place - at) = omega arith in
     let all : place - at + count ≡ place + count - at = omega arith in
-    let which : named ≡ option_and_then block_of (map.get values (Block node (place / 4096))) = block ∙ ap (option_and_then block_of) got in
+    let which : named ≡ option_and_then block_in (map.get values (Block node (place / 4096))) = block ∙ ap (option_and_then block_in) got in
     let part : part_of (store_on now base) named (place % 4096) count ≡ list_map byte (range_with_len (at + (place - at)) count) =
     ap (λ image. part_of (store_on image base) named (place % 4096) count) same
     ∙ ap (λ o. part_of store o (place % 4096) count) which

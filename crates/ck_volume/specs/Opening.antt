@@ -1,31 +1,37 @@
 -- How a device is opened.
-use Rattle.std.specs.Prelude.{◌≡◌, ◌<◌, ℕ, None}
-use Rattle.ck_disk.specs.Disk.{Image, Meaning}
-use Rattle.ck_model.specs.World.{World, empty_world}
+use Rattle.std.specs.Prelude.{◌≡◌, ℕ, None, IsTrue}
+use Rattle.std.specs.FinMap as map
+use Rattle.ck_disk.specs.Disk.{Meaning, LeavesOnly, Rose}
+use Rattle.ck_volume.specs.Recovering.{Recovery, NotVolume, BadFormat, Damaged, Finds, Recovers}
 use Rattle.ck_volume.specs.declared.open.OpenFault.{OpenFault}
-use Rattle.ck_volume.specs.declared.open.OpenFault.TheVariants.{NotVolume, NoMemory}
+use Rattle.ck_volume.specs.declared.open.OpenFault.TheVariants as fault
 use Rattle.ck_volume.specs.declared.volume.Volume.{Volume}
-use Rattle.ck_volume.specs.Volume.{disk_of, length_of, broken_of, world_of}
+use Rattle.ck_volume.specs.Volume.{disk_of, world_of, IsWhole, KeepsWorld}
 
--- the least number of blocks that a device has: 21, and 64 data blocks
-abbrev pub device_blocks : ℕ
-device_blocks = 85
+-- a volume at its beginning
+pub record IsBegun {D : Type 0} (m : Meaning) (volume : Volume D) : Type 0 where
+  pub whole : IsWhole m volume
+  pub length_is : volume.length ≡ 0
+  pub unbroken : volume.broken ≡ None
+  pub mounts_are : volume.mounts ≡ map.empty
 
--- the world at the beginning: the root directory alone, in 64 data blocks and 256 records, with room for one checkpoint
-abbrev pub opening : World
-opening = empty_world (record { blocks = 64; records = 256; checkpoints = 1 })
+-- Its world is what the device recovers to, and a crash leaves that. A crash while it is opened leaves what one at the
+-- beginning could leave.
+pub record IsOpened {D : Type 0} (old new : Meaning) (volume : Volume D) : Type 0 where
+  pub begun : IsBegun new volume
+  pub recovers : IsTrue old.tells → Recovers old.shows (world_of new.shows volume)
+  pub kept : IsTrue old.tells → KeepsWorld new volume (world_of new.shows volume)
+  pub any_moment : LeavesOnly old new old.may_leave
 
--- a volume on this device, at its beginning, whatever the device holds
-pub record IsOpened {D : Type 0} (disk : D) (volume : Volume D) : Type 0 where
-  pub device : disk_of volume ≡ disk
-  pub world : (shows : Image) → world_of shows volume ≡ opening
-  pub length : length_of volume ≡ 0
-  pub broken : broken_of volume ≡ None
-  pub first : volume.area.base ≡ 21
-  pub area : volume.area.blocks ≡ 64
-  pub blocks : volume.table.limits.blocks ≡ 64
+-- the device recovers to this refusal
+abbrev pub IsFound : Meaning → Meaning → Recovery → Type 0
+IsFound old new found = (IsTrue old.tells → Finds old.shows found) × LeavesOnly old new old.may_leave
 
--- the device is handed back; it has too few blocks, or memory was refused
-abbrev pub IsOpenFault : {D : Type 0} → Meaning → D → OpenFault D → Type 0
-IsOpenFault m disk (NotVolume back) = (back ≡ disk) × (m.size < device_blocks)
-IsOpenFault m disk (NoMemory back) = back ≡ disk
+-- why it isn't opened
+abbrev pub IsOpenFault : {D : Type 0} → (D → Meaning) → Meaning → OpenFault D → Type 0
+IsOpenFault means old (fault.NotVolume disk) = IsFound old (means disk) NotVolume
+IsOpenFault means old (fault.BadFormat disk version) = IsFound old (means disk) (BadFormat version)
+IsOpenFault means old (fault.Damaged disk block slot) = IsFound old (means disk) (Damaged block slot)
+IsOpenFault means old (fault.ReadFault disk) = Rose old.read_faults (means disk).read_faults × LeavesOnly old (means disk) old.may_leave
+IsOpenFault means old (fault.WriteFault disk) = Rose old.write_faults (means disk).write_faults × LeavesOnly old (means disk) old.may_leave
+IsOpenFault means old (fault.NoMemory disk) = LeavesOnly old (means disk) old.may_leave

@@ -1,23 +1,27 @@
 -- Whether a table has room for what a call puts, and the reply where it hasn't.
-use Rattle.std.specs.Prelude.{ℕ, ◌+◌, ◌&&◌, Bool, if◌then◌else◌, nat_le}
+use Rattle.std.specs.Prelude.{◌≡◌, ◌≤◌, ◌⊎◌, ℕ, ◌+◌, ◌&&◌, Bool, if◌then◌else◌, nat_le}
 use Rattle.ck_model.specs.declared.reply.Reply.{Reply}
 use Rattle.ck_model.specs.declared.reply.Reply.TheVariants.{NoSpace}
 use Rattle.ck_model.specs.declared.reply.SpaceOf.TheVariants.{Blocks, Records}
 use Rattle.ck_model.specs.World.{World}
 use Rattle.ck_model.specs.Step.{Outcome}
-use Rattle.ck_volume.specs.declared.table.Table.{Table}
+use Rattle.ck_model.specs.Table.{Table, record_count}
+use Rattle.ck_model.specs.Standing.{extent_count}
+
+-- so many records come to so many, which are that many more, or no more
+pub record Grows (before after records : ℕ) : Type 0 where
+  pub by : ((after ≤ before) × (records ≡ 0)) ⊎ (after ≡ before + records)
 
 -- so many new blocks fit, and so many records more
 abbrev pub has_room : Table → ℕ → ℕ → Bool
-has_room table blocks records =
-    nat_le (table.held + blocks) table.limits.blocks && nat_le (table.records + records) table.limits.records
+has_room t blocks records = nat_le (extent_count t + blocks) t.blocks && nat_le (record_count t + records) t.records
 
 -- why they don't fit
 abbrev pub lack_of_room : Table → ℕ → ℕ → Reply
-lack_of_room table blocks records =
-    if nat_le (table.held + blocks) table.limits.blocks
-    then NoSpace Records table.records records table.limits.records
-    else NoSpace Blocks table.held blocks table.limits.blocks
+lack_of_room t blocks records =
+    if nat_le (extent_count t + blocks) t.blocks
+    then NoSpace Records (record_count t) records t.records
+    else NoSpace Blocks (extent_count t) blocks t.blocks
 
 -- this reply, for which nothing is given up, and this next world
 abbrev pub answered_with : Reply → World → Outcome

@@ -1,51 +1,248 @@
-ghost use Rattle.std.specs.Prelude.{◌≡◌, ◌+◌, ◌≤◌, false, IsTrue, IfOk, IfErr, OnErr};
-ghost use Rattle.ck_disk.specs.Disk.{Step};
-ghost use Rattle.ck_model.specs.Streams.{Texts};
+ghost use Rattle.std.specs.Prelude.{◌≡◌, ◌+◌, ◌≤◌, false, IsTrue, IfOk, IfErr, OnOk, OnErr, length};
+ghost use Rattle.ck_model.specs.declared.call.Call.TheVariants.{Sync};
+ghost use Rattle.ck_model.specs.Changing.{file_limit, overwritten};
 ghost use Rattle.ck_model.specs.History.{is_fault};
-ghost use Rattle.ck_model.specs.Step.{step};
-ghost use Rattle.ck_volume.specs.Standing.{world_on};
+ghost use Rattle.ck_model.specs.Reporting.{range_read, checkpoint_read};
+ghost use Rattle.ck_model.specs.Standing.{world_on};
+ghost use Rattle.ck_model.specs.Step.{answered, changing, step};
+ghost use Rattle.ck_model.specs.Streams.{Texts};
+ghost use Rattle.ck_model.specs.Values.{Store};
+ghost use Rattle.ck_model.specs.World.{World, unmounted};
+ghost use Rattle.ck_volume.specs.Allocating.{KeepsBusy};
+ghost use Rattle.ck_volume.specs.Built.{IsBuilt, IsQuiet};
+ghost use Rattle.ck_volume.specs.Files.{AreFiles};
+ghost use Rattle.ck_volume.specs.Planning.{IsPlan};
 ghost use Rattle.ck_volume.specs.Room.{answered_with};
-ghost use Rattle.ck_volume.specs.Device.{store_on};
+ghost use Rattle.ck_volume.specs.Telling.{limits_of};
+ghost use Rattle.ck_volume.specs.Volume.{disk_of, table_of, mounts_of, blocks_of, layout_of, length_of, broken_of, world_of, IsWhole, KeepsWorld, GoesOnOrBreaks, IsAttempt, no_memory};
 ghost use Rattle.ck_volume.specs.Writing.{IsWritingFault};
-ghost use Rattle.ck_volume.specs.Built.{IsBuilt};
 
-use crate::writing::write;
-use crate::{DataArea, Fault, Table, cread, read};
+use crate::freezing::create;
+use crate::making::make;
+use crate::mounting::{mount, umount};
+use crate::passing::pass;
+use crate::planning::{Plan, Planned, plan_write};
+use crate::reads::{cread, read};
+use crate::room::used;
+use crate::telling::{ckpts, info};
+use crate::writing::write_planned;
+use crate::{Fault, Volume};
 use ck_disk::Disk;
-use ck_model::{Call, Reply};
+use ck_model::{Call, NoMemory, Path, Reply};
 use std::alloc::Global;
 
-/// Does an actor's call at a moment. A failure leaves the world as it was.
-pub fn attempt<D: Disk>(
-    alloc: Global,
-    table: &mut Table,
-    disk: &mut D,
-    area: DataArea,
-    actor: u32,
-    moment: u64,
-    call: &Call,
-) -> Result<Reply, Fault>
-    requires built { IsBuilt call.now }
-    requires area { area.base + area.blocks ≤ (D.means disk.old).size }
-    requires blocks { area.blocks ≡ table.old.limits.blocks }
-    ensures ok { IfOk result (λ reply. IsTrue (D.means disk.old).tells → (texts : Texts) → step texts (world_on (store_on (D.means disk.old).shows area.base) table.old) actor moment call.now ≡ answered_with reply (world_on (store_on (D.means disk.new).shows area.base) table.new)) }
-    ensures ordinary { IfOk result (λ reply. is_fault reply ≡ false) }
-    ensures err { OnErr result (IsTrue (D.means disk.old).tells → world_on (store_on (D.means disk.new).shows area.base) table.new ≡ world_on (store_on (D.means disk.old).shows area.base) table.old) }
-    ensures limits { table.new.limits ≡ table.old.limits }
-    ensures step { Step (D.means disk.old) (D.means disk.new) }
-    ensures fault { IfErr result (IsWritingFault (D.means disk.old) (D.means disk.new)) }
-{
-    match call {
-        Call::Make(path) => Ok(table.make(path)?),
-        Call::Write(path, at, bytes) => {
-            write(alloc, table, disk, area, path, *at, bytes.items())
+impl<D: Disk> Volume<D> {
+    /// Does a planned write, with a commit before it where no data block is free.
+    fn write_plan(
+        &mut self,
+        alloc: Global,
+        plan: &Plan,
+        path: &Path,
+        at: u64,
+        bytes: &[u8],
+    ) -> Result<Reply, Fault>
+        requires whole { IsWhole (D.means (disk_of self.old)) self.old }
+        requires plan { IsPlan (table_of self.old) path.now at bytes.now plan.now }
+        requires within { at + length bytes.now ≤ 4096 }
+        ensures attempt { IsAttempt (D.means (disk_of self.old)) (D.means (disk_of self.new)) self.old self.new }
+        ensures goes_on { GoesOnOrBreaks (D.means (disk_of self.old)) (D.means (disk_of self.new)) self.old self.new result }
+        ensures ok { IfOk result (λ reply. IsTrue (D.means (disk_of self.old)).tells → let w = world_of (D.means (disk_of self.old)).shows self.old in
+            changing w (overwritten w path.now at bytes.now) ≡ answered_with reply (world_of (D.means (disk_of self.new)).shows self.new)) }
+        ensures ordinary { IfOk result (λ reply. is_fault reply ≡ false) }
+        ensures err { OnErr result (IsTrue (D.means (disk_of self.old)).tells → world_of (D.means (disk_of self.new)).shows self.new ≡ world_of (D.means (disk_of self.old)).shows self.old) }
+        ensures fault { IfErr result (IsWritingFault (D.means (disk_of self.old)) (D.means (disk_of self.new))) }
+    {
+        self.free_block(alloc)?;
+        let area = self.area();
+        let limits = self.limits();
+        match write_planned(
+            &mut self.slots,
+            &mut self.blocks,
+            limits,
+            &mut self.disk,
+            area,
+            plan,
+            path,
+            at,
+            bytes,
+        ) {
+            Ok(()) => Ok(Reply::Done),
+            Err(fault) => Err(fault),
         }
-        Call::Read(path, at, len) => read(alloc, table, disk, area, path, *at, *len),
-        Call::Create(name, _, _) => Ok(table.create(alloc, name, moment)?),
-        Call::Mount(letter, name) => Ok(table.mount(actor, *letter, name)?),
-        Call::Cread(letter, path, at, len) => {
-            cread(alloc, table, disk, area, actor, *letter, path, *at, *len)
+    }
+
+    fn write(&mut self, alloc: Global, path: &Path, at: u64, bytes: &[u8]) -> Result<Reply, Fault>
+        requires whole { IsWhole (D.means (disk_of self.old)) self.old }
+        requires within { at + length bytes.now ≤ 4096 }
+        ensures attempt { IsAttempt (D.means (disk_of self.old)) (D.means (disk_of self.new)) self.old self.new }
+        ensures goes_on { GoesOnOrBreaks (D.means (disk_of self.old)) (D.means (disk_of self.new)) self.old self.new result }
+        ensures ok { IfOk result (λ reply. IsTrue (D.means (disk_of self.old)).tells → let w = world_of (D.means (disk_of self.old)).shows self.old in
+            changing w (overwritten w path.now at bytes.now) ≡ answered_with reply (world_of (D.means (disk_of self.new)).shows self.new)) }
+        ensures ordinary { IfOk result (λ reply. is_fault reply ≡ false) }
+        ensures err { OnErr result (IsTrue (D.means (disk_of self.old)).tells → world_of (D.means (disk_of self.new)).shows self.new ≡ world_of (D.means (disk_of self.old)).shows self.old) }
+        ensures fault { IfErr result (IsWritingFault (D.means (disk_of self.old)) (D.means (disk_of self.new))) }
+    {
+        let limits = self.limits();
+        match plan_write(&self.slots, &self.blocks, limits, path, at, bytes) {
+            Planned::Answered(reply) => Ok(reply),
+            Planned::Passes => {
+                pass(&mut self.slots, &mut self.blocks, limits);
+                Ok(Reply::Done)
+            }
+            Planned::Writes(plan) => self.write_plan(alloc, &plan, path, at, bytes),
         }
-        _ => unreachable!(),
+    }
+
+    fn read(&mut self, alloc: Global, path: &Path, at: u64, len: u32) -> Result<Reply, Fault>
+        requires whole { IsWhole (D.means (disk_of self.old)) self.old }
+        requires limit { at ≤ file_limit }
+        ensures attempt { IsAttempt (D.means (disk_of self.old)) (D.means (disk_of self.new)) self.old self.new }
+        ensures goes_on { GoesOnOrBreaks (D.means (disk_of self.old)) (D.means (disk_of self.new)) self.old self.new result }
+        ensures ok { IfOk result (λ reply. IsTrue (D.means (disk_of self.old)).tells → let w = world_of (D.means (disk_of self.old)).shows self.old in
+            answered w (range_read w.primary path.now at len) ≡ answered_with reply (world_of (D.means (disk_of self.new)).shows self.new)) }
+        ensures ordinary { IfOk result (λ reply. is_fault reply ≡ false) }
+        ensures err { OnErr result (IsTrue (D.means (disk_of self.old)).tells → world_of (D.means (disk_of self.new)).shows self.new ≡ world_of (D.means (disk_of self.old)).shows self.old) }
+        ensures fault { IfErr result (IsWritingFault (D.means (disk_of self.old)) (D.means (disk_of self.new))) }
+    {
+        let area = self.area();
+        read(
+            alloc,
+            &self.slots,
+            &self.mounts,
+            &mut self.disk,
+            area,
+            path,
+            at,
+            len,
+        )
+    }
+
+    fn cread(
+        &mut self,
+        alloc: Global,
+        actor: u32,
+        letter: u8,
+        path: &Path,
+        at: u64,
+        len: u32,
+    ) -> Result<Reply, Fault>
+        requires whole { IsWhole (D.means (disk_of self.old)) self.old }
+        requires limit { at ≤ file_limit }
+        ensures attempt { IsAttempt (D.means (disk_of self.old)) (D.means (disk_of self.new)) self.old self.new }
+        ensures goes_on { GoesOnOrBreaks (D.means (disk_of self.old)) (D.means (disk_of self.new)) self.old self.new result }
+        ensures ok { IfOk result (λ reply. IsTrue (D.means (disk_of self.old)).tells → let w = world_of (D.means (disk_of self.old)).shows self.old in
+            answered w (checkpoint_read w actor letter path.now at len) ≡ answered_with reply (world_of (D.means (disk_of self.new)).shows self.new)) }
+        ensures ordinary { IfOk result (λ reply. is_fault reply ≡ false) }
+        ensures err { OnErr result (IsTrue (D.means (disk_of self.old)).tells → world_of (D.means (disk_of self.new)).shows self.new ≡ world_of (D.means (disk_of self.old)).shows self.old) }
+        ensures fault { IfErr result (IsWritingFault (D.means (disk_of self.old)) (D.means (disk_of self.new))) }
+    {
+        let area = self.area();
+        cread(
+            alloc,
+            &self.slots,
+            &self.mounts,
+            &mut self.disk,
+            area,
+            actor,
+            letter,
+            path,
+            at,
+            len,
+        )
+    }
+
+    /// Does a call that makes no call of the device.
+    fn attempt_quietly(
+        &mut self,
+        alloc: Global,
+        actor: u32,
+        moment: u64,
+        call: &Call,
+    ) -> Result<Reply, NoMemory>
+        requires whole { IsWhole (D.means (disk_of self.old)) self.old }
+        requires built { IsBuilt call.now }
+        requires quiet { IsQuiet call.now }
+        ensures disk { disk_of self.new ≡ disk_of self.old }
+        ensures region { layout_of self.new ≡ layout_of self.old }
+        ensures length { length_of self.new ≡ length_of self.old }
+        ensures broken { broken_of self.new ≡ broken_of self.old }
+        ensures files { AreFiles (limits_of (table_of self.old)) (table_of self.new) (blocks_of self.new) }
+        ensures busy { KeepsBusy (blocks_of self.old) (blocks_of self.new) }
+        ensures ok { IfOk result (λ reply. (store : Store) (texts : Texts) →
+            step texts (world_on store (mounts_of self.old) (table_of self.old)) actor moment call.now
+            ≡ answered_with reply (world_on store (mounts_of self.new) (table_of self.new))) }
+        ensures ordinary { IfOk result (λ reply. is_fault reply ≡ false) }
+        ensures err_table { OnErr result (table_of self.new ≡ table_of self.old) }
+        ensures err_mounts { OnErr result (mounts_of self.new ≡ mounts_of self.old) }
+    {
+        let limits = self.limits();
+        match call {
+            Call::Make(path) => Ok(make(&mut self.slots, &mut self.blocks, limits, path)),
+            Call::Create(name, _, _) => Ok(create(&mut self.slots, limits, name, moment)),
+            Call::Mount(letter, name) => mount(&self.slots, &mut self.mounts, actor, *letter, name),
+            Call::Umount(letter) => Ok(umount(&mut self.mounts, actor, *letter)),
+            Call::Ckpts => ckpts(alloc, &self.slots),
+            Call::Info => {
+                let used = used(&self.slots, &self.blocks, limits);
+                Ok(info(&self.slots, limits, used))
+            }
+            _ => unreachable!(),
+        }
+    }
+
+    fn quiet(&mut self, alloc: Global, actor: u32, moment: u64, call: &Call) -> Result<Reply, Fault>
+        requires whole { IsWhole (D.means (disk_of self.old)) self.old }
+        requires built { IsBuilt call.now }
+        requires quiet { IsQuiet call.now }
+        ensures attempt { IsAttempt (D.means (disk_of self.old)) (D.means (disk_of self.new)) self.old self.new }
+        ensures goes_on { GoesOnOrBreaks (D.means (disk_of self.old)) (D.means (disk_of self.new)) self.old self.new result }
+        ensures ok { IfOk result (λ reply. (texts : Texts) →
+            step texts (world_of (D.means (disk_of self.old)).shows self.old) actor moment call.now
+            ≡ answered_with reply (world_of (D.means (disk_of self.new)).shows self.new)) }
+        ensures ordinary { IfOk result (λ reply. is_fault reply ≡ false) }
+        ensures err { OnErr result (world_of (D.means (disk_of self.new)).shows self.new ≡ world_of (D.means (disk_of self.old)).shows self.old) }
+        ensures fault { IfErr result (λ fault. fault ≡ no_memory) }
+    {
+        match self.attempt_quietly(alloc, actor, moment, call) {
+            Ok(reply) => Ok(reply),
+            Err(_) => Err(Fault::NoMemory),
+        }
+    }
+
+    /// Does an actor's call at a moment. A failure leaves the world as it was.
+    pub fn attempt(
+        &mut self,
+        alloc: Global,
+        actor: u32,
+        moment: u64,
+        call: &Call,
+    ) -> Result<Reply, Fault>
+        requires whole { IsWhole (D.means (disk_of self.old)) self.old }
+        requires built { IsBuilt call.now }
+        ensures attempt { IsAttempt (D.means (disk_of self.old)) (D.means (disk_of self.new)) self.old self.new }
+        ensures goes_on { GoesOnOrBreaks (D.means (disk_of self.old)) (D.means (disk_of self.new)) self.old self.new result }
+        ensures ok { IfOk result (λ reply. IsTrue (D.means (disk_of self.old)).tells → (texts : Texts) →
+            step texts (world_of (D.means (disk_of self.old)).shows self.old) actor moment call.now
+            ≡ answered_with reply (world_of (D.means (disk_of self.new)).shows self.new)) }
+        ensures ordinary { IfOk result (λ reply. is_fault reply ≡ false) }
+        ensures err { OnErr result (IsTrue (D.means (disk_of self.old)).tells → world_of (D.means (disk_of self.new)).shows self.new ≡ world_of (D.means (disk_of self.old)).shows self.old) }
+        ensures fault { IfErr result (IsWritingFault (D.means (disk_of self.old)) (D.means (disk_of self.new))) }
+
+        // A sync has committed the present world.
+        ensures synced { call.now ≡ Sync → OnOk result (IsTrue (D.means (disk_of self.old)).tells → (w : World) → KeepsWorld (D.means (disk_of self.old)) self.old w
+            → KeepsWorld (D.means (disk_of self.new)) self.new (unmounted (world_of (D.means (disk_of self.new)).shows self.new))) }
+    {
+        match call {
+            Call::Write(path, at, bytes) => self.write(alloc, path, *at, bytes.items()),
+            Call::Read(path, at, len) => self.read(alloc, path, *at, *len),
+            Call::Cread(letter, path, at, len) => {
+                self.cread(alloc, actor, *letter, path, *at, *len)
+            }
+            Call::Sync => {
+                self.commit_table(alloc)?;
+                Ok(Reply::Done)
+            }
+            _ => self.quiet(alloc, actor, moment, call),
+        }
     }
 }

@@ -1,28 +1,17 @@
-ghost use Rattle.std.specs.Prelude.{◌≡◌, ◌≢◌, ◌+◌, ◌-◌, ◌^◌, ◌<◌, ◌≤◌, false, Some, None, IsTrue, IfOk, IfErr, IsSome, MatchOption, MatchResult, if◌then◌else◌};
+ghost use Rattle.std.specs.Prelude.{◌≡◌, ◌+◌, ◌-◌, ◌^◌, ◌<◌, ◌⊎◌, false, Some, None, IsTrue, IsSome, MatchOption, if◌then◌else◌};
 ghost use Rattle.std.specs.Option.{option_or};
-ghost use Rattle.ck_disk.specs.Disk.{Step};
+ghost use Rattle.ck_model.specs.declared.call.Call.TheVariants.{Sync};
 ghost use Rattle.ck_model.specs.declared.reply.Reply.TheVariants as reply;
 ghost use Rattle.ck_model.specs.Streams.{Texts};
-ghost use Rattle.ck_model.specs.History.{CallsBy, is_write_fault, is_broken};
+ghost use Rattle.ck_model.specs.World.{World, unmounted};
+ghost use Rattle.ck_model.specs.History.{CallsBy, is_fault, is_write_fault, is_broken};
 ghost use Rattle.ck_volume.specs.Built.{IsBuilt};
-ghost use Rattle.ck_volume.specs.Volume.{disk_of, length_of, broken_of, world_of, past_on, fault_reply, Answers, IsReady, Follows, HasCause, IsEntryOf};
+ghost use Rattle.ck_volume.specs.Volume.{disk_of, length_of, broken_of, world_of, past_on, Answers, IsWhole, IsReady, KeepsWorld, Runs, Survives, Follows, HasCause, IsEntryOf};
 
-use crate::attempt::attempt;
 use crate::{Fault, Volume};
 use ck_disk::Disk;
 use ck_model::{Call, Entry, Reply};
 use std::alloc::Global;
-
-/// The reply that tells of a failure.
-fn reply_of(fault: Fault) -> Reply
-    ensures { result ≡ fault_reply fault }
-{
-    match fault {
-        Fault::ReadFault => Reply::ReadFault,
-        Fault::WriteFault => Reply::WriteFault,
-        Fault::NoMemory => Reply::NoMemory,
-    }
-}
 
 fn entry_of(actor: u32, seq: u32, at: u64, reply: Reply) -> Entry
     ensures { result ≡ record { actor = actor; seq = seq; at = at; given = 0; reply = reply } }
@@ -41,32 +30,29 @@ impl<D: Disk> Volume<D> {
     /// breaks it.
     fn answer(&mut self, alloc: Global, actor: u32, moment: u64, call: &Call) -> Reply
         requires built { IsBuilt call.now }
-        requires ready { IsReady (D.means (disk_of self.old)) self.old }
-        requires whole { broken_of self.old ≡ None }
+        requires whole { IsWhole (D.means (disk_of self.old)) self.old }
+        requires unbroken { broken_of self.old ≡ None }
         ensures answers { IsTrue (D.means (disk_of self.old)).tells → (texts : Texts) → Answers texts (world_of (D.means (disk_of self.old)).shows self.old) actor moment call.now result (world_of (D.means (disk_of self.new)).shows self.new) }
         ensures ready { IsReady (D.means (disk_of self.new)) self.new }
         ensures length { length_of self.new ≡ length_of self.old }
         ensures broken { broken_of self.new ≡ (if is_write_fault result then Some (length_of self.old) else None) }
         ensures not_refused { is_broken result ≡ false }
         ensures cause { HasCause (D.means (disk_of self.old)) (D.means (disk_of self.new)) result }
-        ensures step { Step (D.means (disk_of self.old)) (D.means (disk_of self.new)) }
+        ensures runs { Runs (D.means (disk_of self.old)) (D.means (disk_of self.new)) }
+        ensures survives { Survives (D.means (disk_of self.old)) (D.means (disk_of self.new)) self.old }
+        ensures kept { broken_of self.new ≡ None → IsTrue (D.means (disk_of self.old)).tells → (w : World) → KeepsWorld (D.means (disk_of self.old)) self.old w
+            → KeepsWorld (D.means (disk_of self.new)) self.new w ⊎ KeepsWorld (D.means (disk_of self.new)) self.new (unmounted (world_of (D.means (disk_of self.old)).shows self.old)) }
+        ensures synced { call.now ≡ Sync → is_fault result ≡ false → IsTrue (D.means (disk_of self.old)).tells → (w : World) → KeepsWorld (D.means (disk_of self.old)) self.old w
+            → KeepsWorld (D.means (disk_of self.new)) self.new (unmounted (world_of (D.means (disk_of self.new)).shows self.new)) }
     {
-        match attempt(
-            alloc,
-            &mut self.table,
-            &mut self.disk,
-            self.area,
-            actor,
-            moment,
-            call,
-        ) {
+        match self.attempt(alloc, actor, moment, call) {
             Ok(reply) => reply,
-            Err(fault) => {
-                if fault == Fault::WriteFault {
-                    self.broken = Some(self.length);
-                }
-                reply_of(fault)
+            Err(Fault::WriteFault) => {
+                self.broken = Some(self.length);
+                Reply::WriteFault
             }
+            Err(Fault::ReadFault) => Reply::ReadFault,
+            Err(Fault::NoMemory) => Reply::NoMemory,
         }
     }
 
@@ -75,15 +61,28 @@ impl<D: Disk> Volume<D> {
         requires built { IsBuilt call.now }
         requires ready { IsReady (D.means (disk_of self.old)) self.old }
         requires few { length_of self.old < 2 ^ 32 - 1 }
+
+        // Its one entry is legal where the history stands.
         ensures entry { IsEntryOf actor seq at result }
         ensures follows { IsTrue (D.means (disk_of self.old)).tells → (texts : Texts) (calls : CallsBy) → calls actor seq ≡ Some call.now → Follows texts calls (past_on (D.means (disk_of self.old)).shows self.old) result (past_on (D.means (disk_of self.new)).shows self.new) }
         ensures ready { IsReady (D.means (disk_of self.new)) self.new }
         ensures length { length_of self.new ≡ length_of self.old + 1 }
+
+        // A failed write breaks it; once it is broken it says so, and leaves the device alone.
         ensures broken { broken_of self.new ≡ option_or (broken_of self.old) (if is_write_fault result.reply then Some (length_of self.old) else None) }
         ensures refused { MatchOption (broken_of self.old) (is_broken result.reply ≡ false) (λ entry. result.reply ≡ reply.Broken entry) }
         ensures untouched { IsSome (broken_of self.old) → disk_of self.new ≡ disk_of self.old }
         ensures cause { HasCause (D.means (disk_of self.old)) (D.means (disk_of self.new)) result.reply }
-        ensures step { Step (D.means (disk_of self.old)) (D.means (disk_of self.new)) }
+        ensures runs { Runs (D.means (disk_of self.old)) (D.means (disk_of self.new)) }
+
+        // A crash at any moment of it leaves the world that was committed before, or the present one from before it.
+        ensures survives { broken_of self.old ≡ None → Survives (D.means (disk_of self.old)) (D.means (disk_of self.new)) self.old }
+        ensures kept { broken_of self.new ≡ None → IsTrue (D.means (disk_of self.old)).tells → (w : World) → KeepsWorld (D.means (disk_of self.old)) self.old w
+            → KeepsWorld (D.means (disk_of self.new)) self.new w ⊎ KeepsWorld (D.means (disk_of self.new)) self.new (unmounted (world_of (D.means (disk_of self.old)).shows self.old)) }
+
+        // A sync that is answered without a fault has committed every entry up to itself.
+        ensures synced { call.now ≡ Sync → is_fault result.reply ≡ false → IsTrue (D.means (disk_of self.old)).tells → (w : World) → KeepsWorld (D.means (disk_of self.old)) self.old w
+            → KeepsWorld (D.means (disk_of self.new)) self.new (unmounted (world_of (D.means (disk_of self.new)).shows self.new)) }
     {
         if let Some(entry) = self.broken {
             self.length += 1;

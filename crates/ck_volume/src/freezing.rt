@@ -1,74 +1,65 @@
-ghost use Rattle.std.specs.Prelude.{◌≡◌, ◌-◌, ◌<◌, ◌^◌, false, Some, None, IfOk, OnErr};
-ghost use Rattle.ck_model.specs.Freezing.{new_id, frozen_world};
+ghost use Rattle.std.specs.Prelude.{◌≡◌, false};
+ghost use Rattle.ck_model.specs.declared.reply.SpaceOf.TheVariants.{Records};
+ghost use Rattle.ck_model.specs.declared.reply.Reply.TheVariants.{NoSpace};
+ghost use Rattle.ck_model.specs.World.{Mounts};
+ghost use Rattle.ck_model.specs.History.{is_fault};
+ghost use Rattle.ck_model.specs.Name.{IsCheckpointName};
 ghost use Rattle.ck_model.specs.Step.{created};
 ghost use Rattle.ck_model.specs.Values.{Store};
-ghost use Rattle.ck_volume.specs.Standing.{world_on};
+ghost use Rattle.ck_model.specs.Standing.{world_on};
+ghost use Rattle.ck_table.specs.Adding.{new_id};
+ghost use Rattle.ck_volume.specs.Freezing.{refusal_of, refused_or};
+ghost use Rattle.ck_volume.specs.Plain.{IsOurs};
 ghost use Rattle.ck_volume.specs.Room.{answered_with};
+ghost use Rattle.ck_volume.specs.Telling.{limits_of};
 
-use crate::growth::Growth;
-use crate::{Frozen, Table};
-use ck_model::{NameBytes, NoMemory, Reply};
-use std::alloc::Global;
+use ck_model::{Kind, Limits, Meta, NameBytes, Reply, SpaceOf};
+use ck_table::{AddFault, add, new_id};
 
-impl Table {
-    /// The id of a checkpoint that is to have this name.
-    fn new_id(&self, name: &NameBytes) -> Result<u32, Reply>
-        ensures value { (store : Store) → result ≡ new_id (world_on store self.now) name.now }
-        ensures next { IfOk result (λ id. id ≡ self.now.next.id) }
-        ensures left { IfOk result (λ id. id < 2 ^ 32 - 1) }
-        ensures none { IfOk result (λ id. self.now.frozen ≡ None) }
-    {
-        if let Some(frozen) = &self.frozen {
-            if frozen.name == *name {
-                return Err(Reply::Exists);
-            }
-            return Err(Reply::TooMany(self.limits.checkpoints));
-        }
-        if self.next.id == u32::MAX {
-            return Err(Reply::Spent);
-        }
-        Ok(self.next.id)
+fn refusal(fault: AddFault, most: u32) -> Reply
+    ensures { result ≡ refusal_of most fault }
+{
+    match fault {
+        AddFault::Exists => Reply::Exists,
+        AddFault::TooMany => Reply::TooMany(most),
+        AddFault::Spent => Reply::Spent,
     }
+}
 
-    /// Puts the one checkpoint, which has a copy of the primary map.
-    fn freeze(&mut self, frozen: Frozen)
-        requires none { self.old.frozen ≡ None }
-        requires values { frozen.values ≡ self.old.primary }
-        requires id { frozen.id ≡ self.old.next.id }
-        requires left { frozen.id < 2 ^ 32 - 1 }
-        requires room { self.old.records < self.old.limits.records }
-        ensures world { (store : Store) → frozen_world frozen.name false false frozen.ctime (world_on store self.old) ≡ world_on store self.new }
-        ensures limits { self.new.limits ≡ self.old.limits }
-    {
-        self.frozen = Some(frozen);
-        self.next.id += 1;
-        self.records += 1;
-    }
-
-    /// Freezes a checkpoint, which isn't removable. A refusal for want of memory changes nothing.
-    pub fn create(&mut self, alloc: Global, name: &NameBytes, at: u64) -> Result<Reply, NoMemory>
-        ensures ok { IfOk result (λ reply. (store : Store) → created (world_on store self.old) name.now false false at ≡ answered_with reply (world_on store self.new)) }
-        ensures err { OnErr result (self.new ≡ self.old) }
-        ensures limits { self.new.limits ≡ self.old.limits }
-    {
-        let id = match self.new_id(name) {
-            Ok(id) => id,
-            Err(reply) => return Ok(reply),
-        };
-        let growth = Growth {
-            blocks: 0,
-            records: 1,
-        };
-        if let Some(reply) = self.lack(0, &growth) {
-            return Ok(reply);
+/// Why no checkpoint with this name is added where no record is free.
+fn lack<M: Meta>(meta: &M, limits: Limits, name: &NameBytes) -> Reply
+    ensures { result ≡ refused_or limits.checkpoints
+        (NoSpace Records limits.records 1 limits.records)
+        (new_id (M.table meta.now) name.now) }
+{
+    match new_id(meta, name) {
+        Ok(_) => {
+            let records = u64::from(limits.records);
+            Reply::NoSpace(SpaceOf::Records, records, 1, records)
         }
-        let values = self.primary.copy(alloc)?;
-        self.freeze(Frozen {
-            id,
-            name: *name,
-            ctime: at,
-            values,
-        });
-        Ok(Reply::Created(id))
+        Err(fault) => refusal(fault, limits.checkpoints),
+    }
+}
+
+/// Freezes a checkpoint, which keeps the files and isn't removable. No data block is copied.
+pub fn create<M: Meta>(meta: &mut M, limits: Limits, name: &NameBytes, at: u64) -> Reply
+    requires ours { IsOurs (M.table meta.old) }
+    requires limits { limits ≡ limits_of (M.table meta.old) }
+    requires name { IsCheckpointName name.now }
+    ensures reply { (store : Store) (mounts : Mounts) →
+        created (world_on store mounts (M.table meta.old)) name.now false false at
+        ≡ answered_with result (world_on store mounts (M.table meta.new)) }
+    ensures ordinary { is_fault result ≡ false }
+    ensures ours { IsOurs (M.table meta.new) }
+    ensures entries { (M.table meta.new).entries ≡ (M.table meta.old).entries }
+    ensures blocks { (M.table meta.new).blocks ≡ (M.table meta.old).blocks }
+    ensures records { (M.table meta.new).records ≡ (M.table meta.old).records }
+{
+    if meta.spare() == 0 {
+        return lack(meta, limits, name);
+    }
+    match add(meta, name, Kind::Keeping, false, at) {
+        Ok(id) => Reply::Created(id),
+        Err(fault) => refusal(fault, limits.checkpoints),
     }
 }

@@ -1,34 +1,31 @@
-//! The volume: files and one checkpoint over the data blocks of a device, and one event at a time.
+//! The volume: its files, checkpoints and mounts over a device, and one event at a time.
 #![tactic(auto)]
 
+mod applying;
 mod attempt;
+mod closing;
+mod committing;
 mod event;
 mod fault;
+mod format;
 mod freezing;
-mod frozen;
-mod growth;
 mod making;
 mod mounting;
-mod naming;
 mod open;
-mod putting;
+mod passing;
+mod planning;
 mod reading;
 mod reads;
 mod room;
 mod storing;
-mod table;
-#[cfg(test)]
-mod tests;
-mod values;
+mod telling;
 mod volume;
-mod walk;
 mod writing;
 
-use fault::Fault;
-use frozen::Frozen;
+pub use closing::CommitAnswer;
+pub use format::FormatFault;
 pub use open::OpenFault;
-use reading::DataArea;
-use reads::{cread, read};
-use table::Table;
-use values::ValueMap;
 pub use volume::Volume;
+
+use fault::Fault;
+use reading::DataArea;

@@ -3,15 +3,19 @@ ghost use Rattle.std.specs.Option.{ForSome, option_and_then};
 ghost use Rattle.ck_model.specs.Changing.{file_limit};
 ghost use Rattle.ck_model.specs.Reading.{file_range};
 ghost use Rattle.ck_model.specs.Values.{cells_on};
-ghost use Rattle.ck_volume.specs.Values.{BlocksBelow, block_of};
+ghost use Rattle.ck_model.specs.Rules.{block_in};
+ghost use Rattle.ck_model.specs.Chain.{value_at};
+ghost use Rattle.ck_model.specs.Standing.{values_of};
+ghost use Rattle.ck_volume.specs.Plain.{IsOurs};
 ghost use Rattle.ck_volume.specs.Device.{store_on};
+ghost use Rattle.ck_volume.specs.declared.fault.Fault.TheVariants.{ReadFault};
 ghost use Rattle.ck_volume.specs.Reading.{bytes_of, part_of, IsFilled, OnlyReads, IsReadingFault};
 
-use crate::ValueMap;
 use crate::fault::Fault;
-use crate::walk::size_at;
+use ck_chain::value;
 use ck_disk::{Block, Disk};
-use ck_model::{Held, Key};
+use ck_model::{Held, Key, Meta};
+use ck_tree::size_at;
 use std::alloc::Global;
 
 /// The bytes of a block.
@@ -26,7 +30,7 @@ pub struct DataArea {
 
 /// The data block that a value names.
 pub fn block_of(held: Option<Held>) -> Option<u32>
-    ensures { result ≡ option_and_then block_of held }
+    ensures { result ≡ option_and_then block_in held }
 {
     match held {
         Some(Held::Extent(_, block)) => Some(block),
@@ -46,6 +50,7 @@ pub fn load<D: Disk>(
     ensures bytes { OnOk result (IsTrue (D.means disk.old).tells → IsFilled (bytes_of (store_on (D.means disk.old).shows area.base) named) into.new) }
     ensures device { OnlyReads (D.means disk.old) (D.means disk.new) }
     ensures fault { IfErr result (IsReadingFault (D.means disk.old) (D.means disk.new)) }
+    ensures err { IfErr result (λ fault. fault ≡ ReadFault) }
 {
     match named {
         Some(block) => disk
@@ -80,29 +85,48 @@ fn append_part<D: Disk>(
     Ok(())
 }
 
-/// At most so many bytes of a file from a place on, as far as they stand below its size.
-pub fn read_range<D: Disk>(
+/// What a fileset has at a key, the primary among them.
+pub fn held_at<M: Meta>(meta: &M, fs: u32, key: &Key) -> Option<Held>
+    ensures { result ≡ value_at (M.table meta.now) fs key.now }
+{
+    if fs > 0 {
+        return value(meta, fs, key);
+    }
+    match meta.get(0, key) {
+        Some(Held::Absent) => None,
+        held => held,
+    }
+}
+
+/// At most so many bytes of a file of a fileset from a place on, as far as they stand below its
+/// size.
+pub fn read_range<M: Meta, D: Disk>(
     alloc: Global,
     disk: &mut D,
     area: DataArea,
-    values: &ValueMap,
+    meta: &M,
+    fs: u32,
     node: u32,
     at: u64,
     len: u32,
 ) -> Result<Vec<u8>, Fault>
     requires limit { at ≤ file_limit }
-    requires blocks { BlocksBelow area.blocks values.now }
+    requires ours { IsOurs (M.table meta.now) }
+    requires blocks { area.blocks ≡ (M.table meta.now).blocks }
     requires area { area.base + area.blocks ≤ (D.means disk.old).size }
-    ensures bytes { IfOk result (λ bytes. IsTrue (D.means disk.old).tells → bytes.items ≡ file_range (cells_on (store_on (D.means disk.old).shows area.base) values.now) node at len) }
+    ensures bytes { IfOk result (λ bytes. IsTrue (D.means disk.old).tells → bytes.items
+        ≡ file_range (cells_on (store_on (D.means disk.old).shows area.base) (values_of (M.table meta.now) fs)) node at len) }
     ensures device { OnlyReads (D.means disk.old) (D.means disk.new) }
     ensures fault { IfErr result (IsReadingFault (D.means disk.old) (D.means disk.new)) }
 {
-    let count = size_at(values, node).saturating_sub(at).min(u64::from(len));
+    let count = size_at(meta, fs, node)
+        .saturating_sub(at)
+        .min(u64::from(len));
     let mut bytes = Vec::with_capacity(alloc, count as usize)?;
     let end = at + count;
     let mut place = at;
     while place < end {
-        let named = block_of(values.get(&Key::Block(node, (place / BLOCK) as u32)));
+        let named = block_of(held_at(meta, fs, &Key::Block(node, (place / BLOCK) as u32)));
         let from = place % BLOCK;
         let part = (BLOCK - from).min(end - place);
         append_part(disk, area, named, from as usize, part as usize, &mut bytes)?;

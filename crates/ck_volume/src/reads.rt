@@ -4,40 +4,44 @@ ghost use Rattle.ck_model.specs.World.{World};
 ghost use Rattle.ck_model.specs.Reporting.{range_read, checkpoint_read};
 ghost use Rattle.ck_model.specs.History.{is_fault};
 ghost use Rattle.ck_model.specs.Step.{answered};
+ghost use Rattle.ck_model.specs.Standing.{values_of, world_on};
 ghost use Rattle.ck_model.specs.Values.{cells_on};
-ghost use Rattle.ck_volume.specs.Values.{BlocksBelow};
 ghost use Rattle.ck_volume.specs.Device.{store_on};
-ghost use Rattle.ck_volume.specs.Standing.{world_on};
+ghost use Rattle.ck_volume.specs.Plain.{IsOurs};
 ghost use Rattle.ck_volume.specs.Room.{answered_with};
 ghost use Rattle.ck_volume.specs.Reading.{OnlyReads, IsReadingFault};
 
-use crate::reading::{DataArea, read_range};
-use crate::walk::file_at;
-use crate::{Fault, Table, ValueMap};
+use crate::mounting::mounted_at;
+use crate::reading::read_range;
+use crate::{DataArea, Fault};
 use ck_disk::Disk;
-use ck_model::{Octets, Path, Reply};
+use ck_model::{Meta, Mounts, Octets, Path, Reply};
+use ck_tree::file_at;
 use std::alloc::Global;
 
-fn range_in<D: Disk>(
+fn range_in<M: Meta, D: Disk>(
     alloc: Global,
-    values: &ValueMap,
+    meta: &M,
     disk: &mut D,
     area: DataArea,
+    fs: u32,
     path: &Path,
     at: u64,
     len: u32,
 ) -> Result<Reply, Fault>
     requires limit { at ≤ file_limit }
+    requires ours { IsOurs (M.table meta.now) }
+    requires blocks { area.blocks ≡ (M.table meta.now).blocks }
     requires area { area.base + area.blocks ≤ (D.means disk.old).size }
-    requires blocks { BlocksBelow area.blocks values.now }
-    ensures reply { IfOk result (λ reply. IsTrue (D.means disk.old).tells → (w : World) → answered w (range_read (cells_on (store_on (D.means disk.old).shows area.base) values.now) path.now at len) ≡ answered_with reply w) }
+    ensures reply { IfOk result (λ reply. IsTrue (D.means disk.old).tells → (w : World) →
+        answered w (range_read (cells_on (store_on (D.means disk.old).shows area.base) (values_of (M.table meta.now) fs)) path.now at len) ≡ answered_with reply w) }
     ensures ordinary { IfOk result (λ reply. is_fault reply ≡ false) }
     ensures device { OnlyReads (D.means disk.old) (D.means disk.new) }
     ensures fault { IfErr result (IsReadingFault (D.means disk.old) (D.means disk.new)) }
 {
-    match file_at(values, path.items()) {
+    match file_at(meta, fs, path.items()) {
         Ok(node) => {
-            let bytes = read_range(alloc, disk, area, values, node, at, len)?;
+            let bytes = read_range(alloc, disk, area, meta, fs, node, at, len)?;
             Ok(Reply::Bytes(Octets::of(bytes)))
         }
         Err(reply) => Ok(reply),
@@ -45,9 +49,10 @@ fn range_in<D: Disk>(
 }
 
 /// Reads a file, or says why not.
-pub fn read<D: Disk>(
+pub fn read<M: Meta, D: Disk>(
     alloc: Global,
-    table: &Table,
+    meta: &M,
+    mounts: &Mounts,
     disk: &mut D,
     area: DataArea,
     path: &Path,
@@ -55,20 +60,25 @@ pub fn read<D: Disk>(
     len: u32,
 ) -> Result<Reply, Fault>
     requires limit { at ≤ file_limit }
+    requires ours { IsOurs (M.table meta.now) }
+    requires blocks { area.blocks ≡ (M.table meta.now).blocks }
     requires area { area.base + area.blocks ≤ (D.means disk.old).size }
-    requires blocks { area.blocks ≡ table.now.limits.blocks }
-    ensures reply { IfOk result (λ reply. IsTrue (D.means disk.old).tells → answered (world_on (store_on (D.means disk.old).shows area.base) table.now) (range_read (world_on (store_on (D.means disk.old).shows area.base) table.now).primary path.now at len) ≡ answered_with reply (world_on (store_on (D.means disk.new).shows area.base) table.now)) }
+    ensures reply { IfOk result (λ reply. IsTrue (D.means disk.old).tells →
+        let w = world_on (store_on (D.means disk.old).shows area.base) mounts.now (M.table meta.now) in
+        answered w (range_read w.primary path.now at len)
+        ≡ answered_with reply (world_on (store_on (D.means disk.new).shows area.base) mounts.now (M.table meta.now))) }
     ensures ordinary { IfOk result (λ reply. is_fault reply ≡ false) }
     ensures device { OnlyReads (D.means disk.old) (D.means disk.new) }
     ensures fault { IfErr result (IsReadingFault (D.means disk.old) (D.means disk.new)) }
 {
-    range_in(alloc, &table.primary, disk, area, path, at, len)
+    range_in(alloc, meta, disk, area, 0, path, at, len)
 }
 
 /// Reads a file of a mounted checkpoint, or says why not.
-pub fn cread<D: Disk>(
+pub fn cread<M: Meta, D: Disk>(
     alloc: Global,
-    table: &Table,
+    meta: &M,
+    mounts: &Mounts,
     disk: &mut D,
     area: DataArea,
     actor: u32,
@@ -78,15 +88,19 @@ pub fn cread<D: Disk>(
     len: u32,
 ) -> Result<Reply, Fault>
     requires limit { at ≤ file_limit }
+    requires ours { IsOurs (M.table meta.now) }
+    requires blocks { area.blocks ≡ (M.table meta.now).blocks }
     requires area { area.base + area.blocks ≤ (D.means disk.old).size }
-    requires blocks { area.blocks ≡ table.now.limits.blocks }
-    ensures reply { IfOk result (λ reply. IsTrue (D.means disk.old).tells → answered (world_on (store_on (D.means disk.old).shows area.base) table.now) (checkpoint_read (world_on (store_on (D.means disk.old).shows area.base) table.now) actor letter path.now at len) ≡ answered_with reply (world_on (store_on (D.means disk.new).shows area.base) table.now)) }
+    ensures reply { IfOk result (λ reply. IsTrue (D.means disk.old).tells →
+        let w = world_on (store_on (D.means disk.old).shows area.base) mounts.now (M.table meta.now) in
+        answered w (checkpoint_read w actor letter path.now at len)
+        ≡ answered_with reply (world_on (store_on (D.means disk.new).shows area.base) mounts.now (M.table meta.now))) }
     ensures ordinary { IfOk result (λ reply. is_fault reply ≡ false) }
     ensures device { OnlyReads (D.means disk.old) (D.means disk.new) }
     ensures fault { IfErr result (IsReadingFault (D.means disk.old) (D.means disk.new)) }
 {
-    match table.mounted(actor, letter) {
-        Ok(frozen) => range_in(alloc, &frozen.values, disk, area, path, at, len),
+    match mounted_at(meta, mounts, actor, letter) {
+        Ok(id) => range_in(alloc, meta, disk, area, id, path, at, len),
         Err(reply) => Ok(reply),
     }
 }

@@ -1,13 +1,19 @@
-use crate::{DataArea, Table};
+use ck_alloc::Blocks;
+use ck_log::Region;
+use ck_model::Mounts;
+use ck_slots::Slots;
 
-/// A volume over a device: its table in memory, and its data blocks on the device. Once a write of
-/// it has failed it is broken: it answers every further call so, and makes no call of the device
-/// any more.
+/// A volume on a device: its table in memory, its data blocks on the device. Once a write of it
+/// has failed it is broken: it answers every further call so, and makes no call of the device any
+/// more.
 #[derive(Drop)]
 pub struct Volume<D> {
-    pub table: Table,
+    pub slots: Slots,
+    /// Where the table is committed.
+    pub region: Region,
+    pub blocks: Blocks,
+    pub mounts: Mounts,
     pub disk: D,
-    pub area: DataArea,
     /// How many calls were answered.
     pub length: u32,
     /// The number of the answer that told of the failed write, counted from 0.

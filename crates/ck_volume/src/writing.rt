@@ -1,112 +1,67 @@
-ghost use Rattle.std.specs.Prelude.{◌≡◌, ◌+◌, ◌≤◌, ◌<◌, ◌^◌, false, Ok, IsTrue, IfOk, IfErr, OnErr, length};
-ghost use Rattle.ck_disk.specs.Disk.{Step};
+ghost use Rattle.std.specs.Prelude.{◌≡◌, ◌⊎◌, ◌+◌, ◌≤◌, ◌<◌, Ok, IsTrue, IfErr, OnOk, OnErr, length};
+ghost use Rattle.ck_alloc.specs.Blocks.{free_count};
+ghost use Rattle.ck_model.specs.declared.reply.Reply.TheVariants.{Done};
 ghost use Rattle.ck_model.specs.Changes.{written};
-ghost use Rattle.ck_model.specs.Changing.{overwritten, with_primary};
-ghost use Rattle.ck_model.specs.History.{is_fault};
+ghost use Rattle.ck_model.specs.Changing.{with_primary};
 ghost use Rattle.ck_model.specs.Step.{changing};
-ghost use Rattle.ck_model.specs.Values.{cells_on};
-ghost use Rattle.ck_volume.specs.Standing.{world_on};
-ghost use Rattle.ck_volume.specs.Room.{answered_with};
+ghost use Rattle.ck_model.specs.World.{Mounts};
+ghost use Rattle.ck_model.specs.Standing.{world_on};
+ghost use Rattle.ck_volume.specs.declared.fault.Fault.TheVariants.{ReadFault, WriteFault};
+ghost use Rattle.ck_volume.specs.Allocating.{KeepsBusy};
 ghost use Rattle.ck_volume.specs.Device.{store_on};
-ghost use Rattle.ck_volume.specs.Writing.{block_puts, IsWritingFault};
+ghost use Rattle.ck_volume.specs.Files.{AreFiles};
+ghost use Rattle.ck_volume.specs.Planning.{IsPlan};
+ghost use Rattle.ck_volume.specs.Room.{answered_with};
+ghost use Rattle.ck_volume.specs.Storing.{OnlyStores};
+ghost use Rattle.ck_volume.specs.Writing.{IsWritingFault};
 
-use crate::growth::{Growth, growth_of};
-use crate::making::LAST_STAMP;
-use crate::reading::block_of;
+use crate::applying::change_all;
+use crate::planning::Plan;
+use crate::reading::{block_of, held_at};
 use crate::storing::store_block;
-use crate::walk::{file_at, size_at};
-use crate::{DataArea, Fault, Table};
+use crate::{DataArea, Fault};
+use ck_alloc::Blocks;
 use ck_disk::Disk;
-use ck_model::{Held, Key, NoMemory, Path, Reply, Small};
-use std::alloc::Global;
+use ck_model::{Counters, Key, Limits, Meta, Path};
 
-/// What a write within the first block puts: the new data block, and the node where the file grows.
-fn block_puts(
-    alloc: Global,
-    stamp: u64,
-    node: u32,
-    block: u32,
-    size: u64,
-    end: u64,
-) -> Result<Vec<(Key, Held)>, NoMemory>
-    ensures { IfOk result (λ puts. puts.items ≡ block_puts stamp node block size end) }
-{
-    let mut puts = Vec::with_capacity(alloc, 2)?;
-    puts.push_reserved((Key::Block(node, 0), Held::Extent(stamp, block)));
-    if size < end {
-        puts.push_reserved((Key::Node(node), Held::Plain(stamp, Small::File(end))));
-    }
-    Ok(puts)
-}
-
-/// Writes bytes within the first block of a file. The new block is stored first, in a data block
-/// that nothing names.
-fn write_block<D: Disk>(
-    alloc: Global,
-    table: &mut Table,
+/// Does a planned write. The new block is stored first, in a free data block; a failure leaves the
+/// table as it is.
+pub fn write_planned<M: Meta, D: Disk>(
+    meta: &mut M,
+    blocks: &mut Blocks,
+    limits: Limits,
     disk: &mut D,
     area: DataArea,
-    node: u32,
-    at: u64,
-    bytes: &[u8],
-) -> Result<Reply, Fault>
-    requires some { 0 < length bytes.now }
-    requires within { at + length bytes.now ≤ 4096 }
-    requires stamp { table.old.next.stamp < 2 ^ 63 }
-    requires area { area.base + area.blocks ≤ (D.means disk.old).size }
-    requires blocks { area.blocks ≡ table.old.limits.blocks }
-    ensures ok { IfOk result (λ reply. IsTrue (D.means disk.old).tells → let w = world_on (store_on (D.means disk.old).shows area.base) table.old in
-        changing w (Ok (with_primary w (written w.primary w.next.stamp node at bytes.now))) ≡ answered_with reply (world_on (store_on (D.means disk.new).shows area.base) table.new)) }
-    ensures ordinary { IfOk result (λ reply. is_fault reply ≡ false) }
-    ensures err { OnErr result (IsTrue (D.means disk.old).tells → world_on (store_on (D.means disk.new).shows area.base) table.new ≡ world_on (store_on (D.means disk.old).shows area.base) table.old) }
-    ensures limits { table.new.limits ≡ table.old.limits }
-    ensures step { Step (D.means disk.old) (D.means disk.new) }
-    ensures fault { IfErr result (IsWritingFault (D.means disk.old) (D.means disk.new)) }
-{
-    let block = table.unused_block(alloc)?;
-    let end = at + bytes.len() as u64;
-    let size = size_at(&table.primary, node);
-    let puts = block_puts(alloc, table.next.stamp, node, block, size, end)?;
-    let growth = growth_of(&table.primary, &table.frozen, &puts);
-    if let Some(reply) = table.lack(1, &growth) {
-        return Ok(reply);
-    }
-    let old = block_of(table.primary.get(&Key::Block(node, 0)));
-    store_block(disk, area, old, block, at, bytes)?;
-    table.put(&puts, growth, table.next.number)?;
-    Ok(Reply::Done)
-}
-
-/// Writes bytes that end within the first block of a file.
-pub fn write<D: Disk>(
-    alloc: Global,
-    table: &mut Table,
-    disk: &mut D,
-    area: DataArea,
+    plan: &Plan,
     path: &Path,
     at: u64,
     bytes: &[u8],
-) -> Result<Reply, Fault>
+) -> Result<(), Fault>
+    requires files { AreFiles limits (M.table meta.old) blocks.old }
+    requires plan { IsPlan (M.table meta.old) path.now at bytes.now plan.now }
+    requires free { 0 < free_count blocks.old }
     requires within { at + length bytes.now ≤ 4096 }
+    requires blocks_are { area.blocks ≡ limits.blocks }
     requires area { area.base + area.blocks ≤ (D.means disk.old).size }
-    requires blocks { area.blocks ≡ table.old.limits.blocks }
-    ensures ok { IfOk result (λ reply. IsTrue (D.means disk.old).tells → let w = world_on (store_on (D.means disk.old).shows area.base) table.old in
-        changing w (overwritten w path.now at bytes.now) ≡ answered_with reply (world_on (store_on (D.means disk.new).shows area.base) table.new)) }
-    ensures ordinary { IfOk result (λ reply. is_fault reply ≡ false) }
-    ensures err { OnErr result (IsTrue (D.means disk.old).tells → world_on (store_on (D.means disk.new).shows area.base) table.new ≡ world_on (store_on (D.means disk.old).shows area.base) table.old) }
-    ensures limits { table.new.limits ≡ table.old.limits }
-    ensures step { Step (D.means disk.old) (D.means disk.new) }
+    ensures done { OnOk result (IsTrue (D.means disk.old).tells → (mounts : Mounts) →
+        let w = world_on (store_on (D.means disk.old).shows area.base) mounts (M.table meta.old) in
+        changing w (Ok (with_primary w (written w.primary w.next.stamp plan.now.node at bytes.now)))
+        ≡ answered_with Done (world_on (store_on (D.means disk.new).shows area.base) mounts (M.table meta.new))) }
+    ensures files { OnOk result (AreFiles limits (M.table meta.new) blocks.new) }
+    ensures busy { OnOk result (KeepsBusy blocks.old blocks.new) }
+    ensures table { OnErr result (M.table meta.new ≡ M.table meta.old) }
+    ensures err { IfErr result (λ fault. ((fault ≡ ReadFault) × (blocks.new ≡ blocks.old)) ⊎ (fault ≡ WriteFault)) }
+    ensures device { OnlyStores area.base blocks.old (D.means disk.old) (D.means disk.new) }
     ensures fault { IfErr result (IsWritingFault (D.means disk.old) (D.means disk.new)) }
 {
-    let node = match file_at(&table.primary, path.items()) {
-        Ok(node) => node,
-        Err(reply) => return Ok(reply),
+    let old = block_of(held_at(meta, 0, &Key::Block(plan.node, 0)));
+    let block = store_block(disk, area, blocks, old, at, bytes)?;
+    let counters = meta.counters();
+    let next = Counters {
+        stamp: counters.stamp + 1,
+        ..counters
     };
-    if table.next.stamp == LAST_STAMP {
-        return Ok(Reply::Spent);
-    }
-    if bytes.is_empty() {
-        return Ok(table.pass()?);
-    }
-    write_block(alloc, table, disk, area, node, at, bytes)
+    let items = plan.items(block);
+    change_all(meta, blocks, limits, next, plan.put(&items), counters.stamp);
+    Ok(())
 }

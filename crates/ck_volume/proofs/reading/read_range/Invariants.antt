@@ -2,6 +2,7 @@ use Rattle.std.proofs.Common.{◌≡◌, ◌-◌, ◌≤◌, IsTrue, map as list
 use Rattle.std.specs.List.{range_with_len}
 use Rattle.ck_model.specs.Reading.{file_byte}
 use Rattle.ck_model.specs.Values.{cells_on}
+use Rattle.ck_model.specs.Standing.{values_of}
 use Rattle.ck_volume.specs.Device.{store_on}
 use Rattle.ck_volume.specs.Reading.{OnlyReads}
 use Rattle.ck_volume.proofs.reading.read_range.Given as goal
@@ -11,7 +12,7 @@ invariant-loop-place g l = record {
   above : l.at ≤ l.place;
   below : l.place ≤ l.end;
   bytes : IsTrue (g.D.Disk.means l.initial.disk).tells
-      → l.bytes.items ≡ list_map (file_byte (cells_on (store_on (g.D.Disk.means l.initial.disk).shows l.area.base) l.values) l.node) (range_with_len l.at (l.place - l.at));
+      → l.bytes.items ≡ list_map (file_byte (cells_on (store_on (g.D.Disk.means l.initial.disk).shows l.area.base) (values_of (g.M.Meta.table l.meta) l.fs)) l.node) (range_with_len l.at (l.place - l.at));
   device : OnlyReads (g.D.Disk.means l.initial.disk) (g.D.Disk.means l.disk);
 }
 

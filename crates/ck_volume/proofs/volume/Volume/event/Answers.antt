@@ -1,10 +1,9 @@
-use Rattle.std.proofs.Common.{◌≡◌, ℕ, ◌+◌, Option, None, Some, if◌then◌else◌, sym, ap, subst, rules}
+use Rattle.std.proofs.Common.{◌≡◌, ℕ, ◌+◌, Option, None, Some, if◌then◌else◌, false, sym, ap, subst, ◌∙◌, rules}
 use Rattle.ck_model.specs.declared.entry.Entry.{Entry}
+use Rattle.ck_model.specs.declared.reply.Reply.{Reply}
 use Rattle.ck_model.specs.World.{World}
-use Rattle.ck_model.specs.History.{Past, is_write_fault}
-use Rattle.ck_volume.specs.Device.{store_on}
-use Rattle.ck_volume.specs.Standing.{world_on}
-use Rattle.ck_volume.specs.Volume.{Follows}
+use Rattle.ck_model.specs.History.{Past, is_fault, is_write_fault}
+use Rattle.ck_volume.specs.Volume.{Follows, world_of}
 use Rattle.ck_volume.proofs.Following.{answered-follows}
 use Rattle.ck_volume.proofs.volume.Volume.event.Goals as goal
 
@@ -13,8 +12,8 @@ returns-clause-follows g c = λ told texts calls is_call.
     let volume = c.args.self.now in
     let after = c.answer-reply.new.self in
     let reply = c.answer-reply.result in
-    let w : World = world_on (store_on (g.D.Disk.means volume.disk).shows volume.area.base) volume.table in
-    let next : World = world_on (store_on (g.D.Disk.means after.disk).shows after.area.base) after.table in
+    let w : World = world_of (g.D.Disk.means volume.disk).shows volume in
+    let next : World = world_of (g.D.Disk.means after.disk).shows after in
     let whole : volume.broken ≡ None = search rules in
     let before : Past = record { world = w; length = volume.length; broken = volume.broken } in
     let begins : record { world = w; length = volume.length; broken = None } ≡ before = ap (λ (o : Option ℕ). record { world = w; length = volume.length; broken = o }) (sym whole) in
@@ -24,3 +23,8 @@ returns-clause-follows g c = λ told texts calls is_call.
     subst (λ (past : Past). Follows texts calls past c.entry_of-2.result (record { world = next; length = after.length + 1; broken = after.broken })) begins
     (subst (λ (past : Past). Follows texts calls (record { world = w; length = volume.length; broken = None }) c.entry_of-2.result past) ends
     (subst (λ (entry : Entry). Follows texts calls (record { world = w; length = volume.length; broken = None }) entry (record { world = next; length = volume.length + 1; broken = if is_write_fault reply then Some volume.length else None })) (sym c.entry_of-2.ensures) follows))
+
+pub returns-clause-synced : goal.returns-clause-synced
+returns-clause-synced g c = λ is_sync ordinary told w keeps.
+    let same : c.answer-reply.result ≡ c.entry_of-2.result.reply = sym (ap (λ (e : Entry). e.reply) c.entry_of-2.ensures) in
+    c.answer-reply.ensures.synced is_sync (ap is_fault same ∙ ordinary) told w keeps

@@ -1,0 +1,105 @@
+-- A call's changes, one after the other: what is left may be made as before.
+use Rattle.std.proofs.Common.{◌≡◌, ◌≢◌, ℕ, ◌+◌, ◌-◌, ◌<◌, ◌≤◌, Bool, true, false, not, ◌&&◌, ◌||◌, List, [], ◌∷◌, ◌++◌, Option, Some, None, is_some, IfSome, IsSome, refl, sym, ap, subst, ◌∙◌, ◌⊎◌, inl, inr, arith, if◌then◌else◌}
+use Rattle.std.specs.List.{list_any}
+use mathlib.Core.Bool.{false≢true}
+use Rattle.ck_model.specs.declared.held.Held.{Held}
+use Rattle.ck_model.specs.declared.change.Change.{Change}
+use Rattle.ck_model.specs.Table.{Table, IsTable, IsSized, column, record_count, spare_count}
+use Rattle.ck_model.specs.Chain.{newest_live_of}
+use Rattle.ck_model.specs.Rules.{IsSound}
+use Rattle.ck_chain.specs.Naming.{block_of, IsNamed}
+use Rattle.ck_chain.specs.Changes.{deletions_first, is_deletion, key_of, value_after}
+use Rattle.ck_push.specs.Changed.{changed}
+use Rattle.ck_push.specs.Growth.{gain, loss, gains, losses, growth, one_if, absent_goes}
+use Rattle.ck_push.proofs.RoomLaws.{deletion_grows}
+use Rattle.ck_alloc.specs.Blocks.{Allocation}
+use Rattle.ck_volume.specs.Plain.{IsOurs}
+use Rattle.ck_volume.specs.Allocating.{is_named, is_taken, AreUnnamed, IsAllocatedBut, KeepsBusy, blocks_held}
+use Rattle.ck_volume.specs.Changing.{changed_all, MayChange, AllApart, MayChangeAll, written_by}
+use Rattle.ck_volume.proofs.UseLemmas.{is-named, held_block, block_held, any_append, one_or, true_false}
+use Rattle.ck_volume.proofs.ChangedLaws.{lawful_after, sound_after, counted_after, may_all_after, gains_stay, losses_stay}
+
+-- the changes that are left may be made, and there is room for them
+pub record MayMake (t : Table) (blocks : Allocation) (items : List Change) (stamp : ℕ) : Type 0 where
+  pub first : deletions_first items ≡ true
+  pub room : gains t items - losses t items ≤ spare_count t
+  pub stamp_below : stamp < t.counters.stamp
+  pub may : MayChangeAll t items stamp
+  pub allocated : IsAllocatedBut (written_by items stamp) t blocks
+
+no_losses : (t : Table) (items : List Change) → list_any is_deletion items ≡ false → losses t items ≡ 0
+no_losses t [] h = refl
+no_losses t (item ∷ items) h =
+    elim (is_deletion item) as (λ b. (b || list_any is_deletion items) ≡ false → one_if b + one_if (b && absent_goes t (key_of item) (newest_live_of t)) + losses t items ≡ 0) [
+      | true ↦ λ clash. cc
+      | false ↦ λ rest. let none = no_losses t items rest in omega arith
+    ] h
+
+both : (a b : Bool) → (a && b) ≡ true → (a ≡ true) × (b ≡ true)
+both true b h = (refl, h)
+both false b h = cc
+
+not_true : (b : Bool) → not b ≡ true → b ≡ false
+not_true true h = cc
+not_true false h = refl
+
+-- a change that is no deletion takes none away
+no_loss : (t : Table) (item : Change) → is_deletion item ≡ false → loss t item ≡ 0
+no_loss t item h = ap (λ b. one_if b + one_if (b && absent_goes t (key_of item) (newest_live_of t))) h
+
+-- the first one has room
+pub room_first : (t : Table) (item : Change) (items : List Change) → deletions_first (item ∷ items) ≡ true → gains t (item ∷ items) - losses t (item ∷ items) ≤ spare_count t → growth t item ≤ spare_count t
+room_first t item items first room =
+    elim (is_deletion item) as (λ b. is_deletion item ≡ b → growth t item ≤ spare_count t) [
+      | true ↦ λ is. let none = deletion_grows t item is in omega (arith, none)
+      | false ↦ λ is.
+          let left : not (list_any is_deletion items) ≡ true = sym (ap (λ b. b || not (list_any is_deletion items)) is) ∙ (both (is_deletion item || not (list_any is_deletion items)) (deletions_first items) first).0 in
+          let none = no_losses t items (not_true (list_any is_deletion items) left) in
+          let here = no_loss t item is in
+          omega (arith, room, none, here)
+    ] refl
+
+-- and the others have room then
+room_after : (t u : Table) (item : Change) (items : List Change) → deletions_first (item ∷ items) ≡ true → gains t (item ∷ items) - losses t (item ∷ items) ≤ spare_count t
+    → record_count t ≤ t.records → record_count u ≤ u.records → u.records ≡ t.records → record_count u + loss t item ≡ record_count t + gain t item
+    → gains u items ≡ gains t items → losses u items ≡ losses t items → gains u items - losses u items ≤ spare_count u
+room_after t u item items first room fits fits_after limit counted same_gains same_losses =
+    elim (is_deletion item) as (λ b. is_deletion item ≡ b → gains u items - losses u items ≤ spare_count u) [
+      | true ↦ λ is. let less : gain t item - loss t item ≡ 0 = deletion_grows t item is in omega (arith, room, fits, fits_after, limit, counted, same_gains, same_losses, less)
+      | false ↦ λ is.
+          let left : not (list_any is_deletion items) ≡ true = sym (ap (λ b. b || not (list_any is_deletion items)) is) ∙ (both (is_deletion item || not (list_any is_deletion items)) (deletions_first items) first).0 in
+          let none = no_losses t items (not_true (list_any is_deletion items) left) in
+          let here = no_loss t item is in
+          omega (arith, room, fits, fits_after, limit, counted, same_gains, same_losses, none, here)
+    ] refl
+
+-- no entry names a block that they write
+unnamed_block : (t : Table) (item : Change) (stamp : ℕ) → MayChange t item stamp → (block : ℕ) → is_taken (blocks_held (value_after item stamp)) block ≡ true → is_named t block ≡ false
+unnamed_block t item stamp may block took =
+    let is : block_of (value_after item stamp) ≡ Some block = block_held (value_after item stamp) block took in
+    let free = subst (λ o. IfSome o (λ b. (b < t.blocks) × (IsNamed t b → ⊥))) is may.block in
+    true_false (is_named t block) (λ named. free.1 (is-named t block named))
+
+pub unnamed_all : (t : Table) (items : List Change) (stamp : ℕ) → MayChangeAll t items stamp → AreUnnamed (written_by items stamp) t
+unnamed_all t [] stamp may block h = absurd (false≢true h)
+unnamed_all t (item ∷ items) stamp may block h =
+    elim (one_or (is_taken (blocks_held (value_after item stamp)) block) (is_taken (written_by items stamp) block) (sym (any_append block (blocks_held (value_after item stamp)) (written_by items stamp)) ∙ h)) [
+      | inl here ↦ unnamed_block t item stamp may.0 block here
+      | inr rest ↦ unnamed_all t items stamp may.2 block rest
+    ]
+
+-- one change more is made
+pub made_one : (t u : Table) (blocks left : Allocation) (item : Change) (items : List Change) (stamp : ℕ) → IsOurs t → IsSized u → MayMake t blocks (item ∷ items) stamp
+    → u ≡ changed t (key_of item) (value_after item stamp) → IsAllocatedBut (written_by items stamp) u left → MayMake u left items stamp
+made_one t u blocks left item items stamp ours sized may is allocated =
+    let v = changed t (key_of item) (value_after item stamp) in
+    let counted = counted_after t item stamp ours.lawful ours.sound may.stamp_below may.may.0 in
+    let sized_v : IsSized v = subst IsSized is sized in
+    record {
+      first = (both _ (deletions_first items) may.first).1;
+      room = subst (λ x. gains x items - losses x items ≤ spare_count x) (sym is)
+          (room_after t v item items may.first may.room ours.sized.fits sized_v.fits refl counted (gains_stay t item stamp items may.may.1) (losses_stay t item stamp items may.may.1));
+      stamp_below = subst (λ (x : Table). stamp < x.counters.stamp) (sym is) may.stamp_below;
+      may = subst (λ x. MayChangeAll x items stamp) (sym is) (may_all_after t item stamp ours.lawful ours.sound may.stamp_below may.may.0 items may.may.1 may.may.2);
+      allocated = allocated;
+    }
