@@ -7,6 +7,7 @@ pub mod IdLemmas
 pub mod TableLemmas
 pub mod FormattedLemmas
 pub mod SpellingLemmas
+pub mod FirstLemmas
 pub mod BuildingLemmas
 pub mod OpenedLemmas
 pub mod CommitLemmas

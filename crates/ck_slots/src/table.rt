@@ -3,19 +3,21 @@ ghost use Rattle.std.specs.Ordering.{nat_cmp};
 ghost use Rattle.std.specs.FinMap.{is_sorted};
 ghost use Rattle.std.specs.FinMap as map;
 ghost use Rattle.ck_disk.specs.Disk.{Agrees, Outside, IsSynced};
-ghost use Rattle.ck_log.specs.Layout.{base_of, size_of};
+ghost use Rattle.ck_log.specs.Layout.{base_of, size_of, table_blocks};
+ghost use Rattle.ck_log.specs.FirstTable.{first_table};
 ghost use Rattle.ck_log.specs.Images.{table_on, Settled};
 ghost use Rattle.ck_log.specs.Reads.{OnlyReads};
 ghost use Rattle.ck_model.specs.Rules.{IsSound};
 ghost use Rattle.ck_model.specs.Standing.{extents_of};
 ghost use Rattle.ck_model.specs.Table.{IsTable, IsSized};
-ghost use Rattle.ck_area.specs.Area.{new_table, table_of as area_table};
+ghost use Rattle.ck_area.specs.Area.{AreSlots, new_table, table_of as area_table};
 ghost use Rattle.ck_area.specs.Damage.{damage};
 ghost use Rattle.ck_slots.specs.Building.{AreRecords};
 ghost use Rattle.ck_slots.specs.Committed.{Commits, IsCommitFault};
 ghost use Rattle.ck_slots.specs.Formatted.{StandsForEmpty};
 ghost use Rattle.ck_slots.specs.Opened.{IsBuilt, IsOpened, IsOpenFault};
 ghost use Rattle.ck_slots.specs.Lawful.{table_of, IsTable-prop};
+ghost use Rattle.ck_slots.specs.Written.{slots_of};
 
 use crate::building::{counters_from, entries_from, filesets_from};
 use crate::entries::Entries;
@@ -59,6 +61,11 @@ impl Slots {
             (λ slots. table_in slots ≡ new_table region.now.blocks region.now.records) }
         ensures sound { IfOk result (λ slots. IsSound (table_in slots)) }
         ensures world { IfOk result (λ slots. StandsForEmpty (table_in slots)) }
+
+        // It is what `Region::format` has written.
+        ensures written { IfOk result
+            (λ slots. AreSlots (first_table (table_blocks region.now.records))
+            (slots_of region.now (table_in slots))) }
     {
         let blocks = region.blocks();
         let records = region.records();
