@@ -26,3 +26,5 @@ pub mod GoesOnLemmas
 pub mod VolumeLemmas
 pub mod Following
 pub mod OpenLemmas
+pub mod KeptLaws
+pub mod FormatLemmas

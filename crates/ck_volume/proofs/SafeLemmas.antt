@@ -31,24 +31,24 @@ base_high : (records : ℕ) → 2 ≤ base_of records
 base_high records = omega (arith, area_low records false, area_high records false)
 
 -- the slots that a table is written in
-abbrev slots_for : Layout → Table → Area
+abbrev pub slots_for : Layout → Table → Area
 slots_for layout t = written_as (32 * table_blocks layout.records) t
 
 -- the data blocks that the table names are the same on an image that agrees there
-named_same : (layout : Layout) (t : Table) (shows image : Image) → Agrees (IsNamedAt layout t) shows image → SameNamed t (store_on image (base_of layout.records)) (store_on shows (base_of layout.records))
+pub named_same : (layout : Layout) (t : Table) (shows image : Image) → Agrees (IsNamedAt layout t) shows image → SameNamed t (store_on image (base_of layout.records)) (store_on shows (base_of layout.records))
 named_same layout t shows image agrees block named = sym (agrees.at (base_of layout.records + block) (record { block = block; place = refl; named = named }))
 
 -- a table as it is written
 module _ (layout : Layout) (t : Table) (ours : IsOurs t) (blocks : t.blocks ≡ layout.blocks) (records : t.records ≡ layout.records) where
-  written-built : is_unbuilt (slots_for layout t) ≡ false
+  pub written-built : is_unbuilt (slots_for layout t) ≡ false
   written-built = built_written (32 * table_blocks layout.records) t (λ id f has.
       let plain = ours.plain id f has in
       (λ i. plain.gone i || not (plain.keeps i) || plain.stays i))
 
-  written-undamaged : damage layout.blocks layout.records (slots_for layout t) ≡ None
+  pub written-undamaged : damage layout.blocks layout.records (slots_for layout t) ≡ None
   written-undamaged = (λ i. damage (sym blocks i) (sym records i) (slots_for layout t)) ∙ undamaged_written (32 * table_blocks layout.records) t ours.lawful ours.sound ours.sized
 
-  written-table : table_of layout.blocks layout.records (slots_for layout t) ≡ t
+  pub written-table : table_of layout.blocks layout.records (slots_for layout t) ≡ t
   written-table = (λ i. table_of (sym blocks i) (sym records i) (slots_for layout t)) ∙ read_again (32 * table_blocks layout.records) t
 
 -- an image that has the table, and its data blocks as they are shown, opens to its world

@@ -1,4 +1,4 @@
-ghost use Rattle.std.specs.Prelude.{◌≡◌, ◌≢◌, ◌⊎◌, Some, None, IsTrue, IsSome};
+ghost use Rattle.std.specs.Prelude.{◌≡◌, ◌≢◌, ◌⊎◌, ℕ, Some, None, IsTrue, IsSome};
 ghost use Rattle.ck_disk.specs.Disk.{Image, Rose};
 ghost use Rattle.ck_model.specs.World.{World, unmounted};
 ghost use Rattle.ck_volume.specs.declared.closing.CommitAnswer.TheVariants as answer;

@@ -1,8 +1,9 @@
-ghost use Rattle.std.specs.Prelude.{◌≡◌, ◌+◌, ◌≤◌, ◌<◌, IsTrue, IfErr, OnOk};
+ghost use Rattle.std.specs.Prelude.{◌≡◌, ◌≢◌, ◌+◌, ◌≤◌, ◌<◌, IsTrue, IfErr, OnOk};
 ghost use Rattle.std.specs.FinSet as set;
 ghost use Rattle.ck_alloc.specs.Blocks.{free_count};
 ghost use Rattle.ck_model.specs.World.{World, unmounted};
 ghost use Rattle.ck_model.specs.Standing.{extent_count};
+ghost use Rattle.ck_volume.specs.declared.fault.Fault.TheVariants as fault;
 ghost use Rattle.ck_volume.specs.Telling.{limits_of};
 ghost use Rattle.ck_volume.specs.Volume.{disk_of, mounts_of, blocks_of, table_of, layout_of, data_of, world_of, IsWhole, KeepsWorld, GoesOnOrBreaks, IsAttempt};
 ghost use Rattle.ck_volume.specs.Writing.{IsWritingFault};
@@ -51,6 +52,7 @@ impl<D: Disk> Volume<D> {
         ensures mounts { mounts_of self.new ≡ mounts_of self.old }
         ensures settled { OnOk result (blocks_of self.new ≡ record (blocks_of self.old) { pending = set.empty }) }
         ensures fault { IfErr result (IsWritingFault (D.means (disk_of self.old)) (D.means (disk_of self.new))) }
+        ensures no_read { IfErr result (λ why. why ≢ fault.ReadFault) }
     {
         match self.slots.commit(alloc, &mut self.region, &mut self.disk) {
             Ok(()) => {

@@ -23,9 +23,8 @@ mod volume;
 mod writing;
 
 pub use closing::CommitAnswer;
+use fault::Fault;
 pub use format::FormatFault;
 pub use open::OpenFault;
-pub use volume::Volume;
-
-use fault::Fault;
 use reading::DataArea;
+pub use volume::Volume;

@@ -9,6 +9,6 @@ returns-then-free-gt0-clause-attempt g c = quiet-attempt (g.D.Disk.means c.args.
 pub returns-clause-free : goal.returns-clause-free
 returns-clause-free g c =
     let files = c.requires.whole.files in
-    on_ok_map _ _ c.commit.result
-    (settled_free (table_of c.args.self.now) (blocks_of c.args.self.now) (blocks_of c.commit.new.self) files.ours files.allocated c.requires.room)
-    c.commit.ensures.settled
+    on_ok_map _ _ c.commit_table.result
+    (settled_free (table_of c.args.self.now) (blocks_of c.args.self.now) (blocks_of c.commit_table.new.self) files.ours files.allocated c.requires.room)
+    c.commit_table.ensures.settled
