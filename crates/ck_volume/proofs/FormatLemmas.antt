@@ -1,5 +1,5 @@
 -- A volume as it is made.
-use Rattle.std.proofs.Common.{◌≡◌, ℕ, ◌||◌, ◌<◌, ◌≤◌, false, is_some, IsTrue, None, refl, sym, ap, subst, ◌∙◌}
+use Rattle.std.proofs.Common.{◌≡◌, ℕ, ◌||◌, ◌≤◌, false, is_some, IsTrue, None, refl, sym, ap, subst, ◌∙◌}
 use mathlib.Core.Bool.{false≢true}
 use Rattle.std.specs.Ordering.{nat_cmp}
 use Rattle.std.specs.FinMap as map
@@ -9,7 +9,6 @@ use Rattle.ck_log.specs.Layout.{Layout, table_blocks, base_of, size_of}
 use Rattle.ck_log.specs.Header.{Opens as OpensAt}
 use Rattle.ck_log.specs.FirstTable.{first_table, new_layout}
 use Rattle.ck_log.specs.Images.{recovered_region, table_on, Settled}
-use Rattle.ck_model.specs.World.{World}
 use Rattle.ck_model.specs.Standing.{world_on}
 use Rattle.ck_model.specs.Table.{Table}
 use Rattle.ck_area.specs.Area.{AreSlots, new_table}
@@ -21,7 +20,7 @@ use Rattle.ck_volume.specs.Formatting.{new_world, IsFormatted}
 use Rattle.ck_volume.specs.Plain.{IsOurs, IsPlain}
 use Rattle.ck_volume.specs.Safe.{HoldsTable}
 use Rattle.ck_volume.specs.declared.volume.Volume.{Volume}
-use Rattle.ck_volume.specs.Volume.{table_of, mounts_of, blocks_of, layout_of, world_of, KeepsWorld, Runs}
+use Rattle.ck_volume.specs.Volume.{table_of, mounts_of, blocks_of, layout_of, KeepsWorld, Runs}
 use Rattle.ck_volume.proofs.SafeLemmas.{written-built, written-undamaged, written-table}
 use Rattle.ck_volume.proofs.OpenLemmas.{synced-safe}
 use Rattle.ck_volume.proofs.KeptLaws.{kept-exact}

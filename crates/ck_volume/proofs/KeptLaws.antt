@@ -1,12 +1,11 @@
 -- What a crash leaves of a volume, as laws on the definitions alone.
-use Rattle.std.proofs.Common.{◌≡◌, ℕ, refl, sym, ap, subst, ◌∙◌}
+use Rattle.std.proofs.Common.{refl, sym, ap, subst, ◌∙◌}
 use Rattle.std.specs.FinMap as map
 use Rattle.ck_disk.specs.Disk.{Image, Meaning}
 use Rattle.ck_log.specs.Layout.{Layout, base_of}
 use Rattle.ck_alloc.specs.Blocks.{Allocation}
 use Rattle.ck_model.specs.World.{World}
 use Rattle.ck_model.specs.Space.{held, records_in}
-use Rattle.ck_model.specs.Standing.{world_on}
 use Rattle.ck_model.specs.Table.{Table}
 use Rattle.ck_volume.specs.Committed.{Keeps}
 use Rattle.ck_volume.specs.Device.{store_on}
