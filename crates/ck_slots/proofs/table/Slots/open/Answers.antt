@@ -1,4 +1,4 @@
-use Rattle.std.proofs.Common.{◌≡◌, sym, subst, ap, ◌∙◌}
+use Rattle.std.proofs.Common.{sym, subst, ap, ◌∙◌}
 use Rattle.ck_model.specs.Table.{Table}
 use Rattle.ck_area.specs.Damage.{is_unbuilt}
 use Rattle.ck_area.proofs.WrittenLemmas.{built_read}
