@@ -140,7 +140,7 @@ fn reads_scripts(rt: HostRuntime) -> Result<(), Fail> {
 }
 
 #[test]
-fn takes_calls_on_the_whole_volume(rt: HostRuntime) -> Result<(), Fail> {
+fn takes_what_is_built(rt: HostRuntime) -> Result<(), Fail> {
     let text = "1 create c1\n1 mount a c1\n1 umount a\n1 ckpts\n1 info\n1 sync\n";
     let script = parse(rt.alloc(), text.as_bytes()).ok().ok_or("refused")?;
     let calls = script.calls.into_vec();
