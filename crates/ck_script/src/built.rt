@@ -22,7 +22,7 @@ fn is_built_call(call: &Call) -> bool
             is_one_name(path) && *at <= 4096 && *len <= 4096
         }
         Call::Create(_, nodata, removable) => !*nodata && !*removable,
-        Call::Mount(_, _) => true,
+        Call::Ckpts | Call::Mount(_, _) | Call::Umount(_) | Call::Info | Call::Sync => true,
         _ => false,
     }
 }

@@ -140,6 +140,19 @@ fn reads_scripts(rt: HostRuntime) -> Result<(), Fail> {
 }
 
 #[test]
+fn takes_what_is_built(rt: HostRuntime) -> Result<(), Fail> {
+    let text = "1 create c1\n1 mount a c1\n1 umount a\n1 ckpts\n1 info\n1 sync\n";
+    let script = parse(rt.alloc(), text.as_bytes()).ok().ok_or("refused")?;
+    let calls = script.calls.into_vec();
+    assert_eq!(rt; calls.len(), 6);
+    assert!(rt; matches!(&calls[2].call, Call::Umount(b'a')));
+    assert!(rt; matches!(&calls[3].call, Call::Ckpts));
+    assert!(rt; matches!(&calls[4].call, Call::Info));
+    assert!(rt; matches!(&calls[5].call, Call::Sync));
+    Ok(())
+}
+
+#[test]
 fn refuses_the_first_bad_line(rt: HostRuntime) -> Result<(), Fail> {
     for (text, refused) in [
         ("", None),
@@ -155,7 +168,7 @@ fn refuses_the_first_bad_line(rt: HostRuntime) -> Result<(), Fail> {
         ("1 write /a 4096 t:x", Some(1)),
         ("1 read /a 0 4097", Some(1)),
         ("1 create -n c", Some(1)),
-        ("1 sync", Some(1)),
+        ("1 sync\n1 remove c1\n", Some(2)),
     ] {
         let fault = parse(rt.alloc(), text.as_bytes()).err();
         assert_eq!(rt; fault, refused.map(ParseFault::BadLine), "{text}");
