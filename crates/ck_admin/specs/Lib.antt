@@ -1,3 +1,4 @@
 pub mod Play
+pub mod Refusals
 pub mod Statuses
 pub mod Top

@@ -5,6 +5,7 @@ mod command;
 mod playing;
 mod print;
 mod read;
+mod refusal;
 #[cfg(test)]
 mod tests;
 
