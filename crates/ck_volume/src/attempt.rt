@@ -210,7 +210,7 @@ impl<D: Disk> Volume<D> {
     }
 
     /// Does an actor's call at a moment. A failure leaves the world as it was.
-    pub fn attempt(
+    pub(crate) fn attempt(
         &mut self,
         alloc: Global,
         actor: u32,

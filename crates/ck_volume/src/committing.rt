@@ -19,7 +19,7 @@ const CHECKPOINTS: u32 = 64;
 
 impl<D: Disk> Volume<D> {
     /// Where the data blocks stand.
-    pub fn area(&self) -> DataArea
+    pub(crate) fn area(&self) -> DataArea
         ensures { result ≡ record { base = data_of self.now; blocks = (table_of self.now).blocks } }
     {
         DataArea {
@@ -29,7 +29,7 @@ impl<D: Disk> Volume<D> {
     }
 
     /// What it has room for.
-    pub fn limits(&self) -> Limits
+    pub(crate) fn limits(&self) -> Limits
         ensures { result ≡ limits_of (table_of self.now) }
     {
         Limits {
@@ -41,7 +41,7 @@ impl<D: Disk> Volume<D> {
 
     /// Commits the table: afterwards a crash leaves the present world, without its mounts. The
     /// pending data blocks are free then.
-    pub fn commit_table(&mut self, alloc: Global) -> Result<(), Fault>
+    pub(crate) fn commit_table(&mut self, alloc: Global) -> Result<(), Fault>
         requires whole { IsWhole (D.means (disk_of self.old)) self.old }
         ensures attempt { IsAttempt (D.means (disk_of self.old)) (D.means (disk_of self.new)) self.old self.new }
         ensures goes_on { GoesOnOrBreaks (D.means (disk_of self.old)) (D.means (disk_of self.new)) self.old self.new result }
@@ -66,7 +66,7 @@ impl<D: Disk> Volume<D> {
 
     /// Commits where no data block is free, so that one is: a data block is in use, pending or
     /// free, and one isn't in use.
-    pub fn free_block(&mut self, alloc: Global) -> Result<(), Fault>
+    pub(crate) fn free_block(&mut self, alloc: Global) -> Result<(), Fault>
         requires whole { IsWhole (D.means (disk_of self.old)) self.old }
         requires room { extent_count (table_of self.old) + 1 ≤ (table_of self.old).blocks }
         ensures attempt { IsAttempt (D.means (disk_of self.old)) (D.means (disk_of self.new)) self.old self.new }

@@ -19,6 +19,8 @@ mod reads;
 mod room;
 mod storing;
 mod telling;
+#[cfg(test)]
+mod tests;
 mod volume;
 mod writing;
 
