@@ -7,6 +7,7 @@ use Rattle.ck_model.specs.declared.call.Call.TheVariants.{Make, Mkdir, Rm, Rmdir
 use Rattle.ck_script.specs.declared.form.Form.TheVariants.{Called}
 use Rattle.ck_script.specs.declared.line.Line.{Line}
 use Rattle.ck_script.specs.Built.{is_built_call, is_built}
+use Rattle.ck_script.specs.Names.{HasValidName, HaveValidNames}
 use Rattle.ck_volume.specs.Built.{IsBuilt}
 
 within_first : (b : Bool) (end : ℕ) → IsTrue (b && nat_le end 4096) → end ≤ 4096
@@ -22,32 +23,32 @@ neither false false h = (refl, refl)
 neither false true h = cc
 neither true removable h = cc
 
-built_call : (call : Call) → IsTrue (is_built_call call) → IsBuilt call
-built_call (Make path) h = tt
-built_call (Mkdir path) h = cc
-built_call (Rm path) h = cc
-built_call (Rmdir path) h = cc
-built_call (Mv path new_path) h = cc
-built_call (Write path at bytes) h = within_first (nat_eq (length path) 1) (at + length bytes) h
-built_call (Fill path at len byte) h = cc
-built_call (Trunc path size) h = cc
-built_call (Read path at len) h = both_within (nat_eq (length path) 1) at len h
-built_call (Ls path) h = cc
-built_call (Stat path) h = cc
-built_call (Create name nodata removable) h = neither nodata removable h
-built_call (Remove name) h = cc
-built_call (Nodata name synchronous) h = cc
-built_call (Removable name on) h = cc
-built_call Ckpts h = cc
-built_call (Mount letter name) h = tt
-built_call (Umount letter) h = cc
-built_call (Cread letter path at len) h = both_within (nat_eq (length path) 1) at len h
-built_call (Clist letter path) h = cc
-built_call (Restore name) h = cc
-built_call (Backup letter later) h = cc
-built_call (Full letter) h = cc
-built_call Info h = cc
-built_call Sync h = cc
+built_call : (call : Call) → IsTrue (is_built_call call) → HasValidName call → IsBuilt call
+built_call (Make path) h valid = tt
+built_call (Mkdir path) h valid = cc
+built_call (Rm path) h valid = cc
+built_call (Rmdir path) h valid = cc
+built_call (Mv path new_path) h valid = cc
+built_call (Write path at bytes) h valid = within_first (nat_eq (length path) 1) (at + length bytes) h
+built_call (Fill path at len byte) h valid = cc
+built_call (Trunc path size) h valid = cc
+built_call (Read path at len) h valid = both_within (nat_eq (length path) 1) at len h
+built_call (Ls path) h valid = cc
+built_call (Stat path) h valid = cc
+built_call (Create name nodata removable) h valid = let flags = neither nodata removable h in (flags.0, flags.1, valid)
+built_call (Remove name) h valid = cc
+built_call (Nodata name synchronous) h valid = cc
+built_call (Removable name on) h valid = cc
+built_call Ckpts h valid = tt
+built_call (Mount letter name) h valid = tt
+built_call (Umount letter) h valid = tt
+built_call (Cread letter path at len) h valid = both_within (nat_eq (length path) 1) at len h
+built_call (Clist letter path) h valid = cc
+built_call (Restore name) h valid = cc
+built_call (Backup letter later) h valid = cc
+built_call (Full letter) h valid = cc
+built_call Info h valid = tt
+built_call Sync h valid = tt
 
 of_one : (actor : ℕ) (call : Call) → IsTrue (is_built (Called actor call)) → IsTrue (is_built_call call)
 of_one actor call h = step (nat_eq actor 1) (is_built_call call) h
@@ -57,6 +58,6 @@ of_one actor call h = step (nat_eq actor 1) (is_built_call call) h
     step false b h = cc
 
 -- the lines of a script are built
-pub lines_built : (lines : List Line) → AllByRecursion (λ line. IsTrue (is_built (Called line.actor line.call))) lines → AllByRecursion (λ line. IsBuilt line.call) lines
-lines_built [] all = tt
-lines_built (line ∷ lines) all = (built_call line.call (of_one line.actor line.call all.0), lines_built lines all.1)
+pub lines_built : (lines : List Line) → AllByRecursion (λ line. IsTrue (is_built (Called line.actor line.call))) lines → HaveValidNames lines → AllByRecursion (λ line. IsBuilt line.call) lines
+lines_built [] all valid = tt
+lines_built (line ∷ lines) all valid = (built_call line.call (of_one line.actor line.call all.0) valid.0, lines_built lines all.1 valid.1)

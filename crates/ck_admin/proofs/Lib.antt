@@ -1,4 +1,6 @@
 pub mod PlayLemmas
+pub mod CrashLemmas
+pub mod PlayedLemmas
 pub mod BuiltLemmas
-pub mod WordLemmas
 pub mod TopLemmas
+pub mod OpeningLemmas

@@ -11,6 +11,7 @@ use Rattle.ck_model.specs.declared.call.Call.{Call}
 use Rattle.ck_model.specs.declared.entry.Entry.{Entry}
 use Rattle.ck_model.specs.declared.reply.Reply.{Reply}
 use Rattle.ck_model.specs.Streams.{Texts}
+use Rattle.ck_model.specs.World.{World}
 use Rattle.ck_model.specs.History.{Past, CallsBy, begun, past_of, past_after, IsLegal, IsLegalFrom, IsOfScript, call_at, calls_of, numbers_of, is_write_fault, is_broken}
 use Rattle.ck_model.proofs.HistoryLemmas.{past_of-append, IsLegalFrom-append}
 use Rattle.ck_script.specs.declared.line.Line.{Line}
@@ -18,7 +19,6 @@ use Rattle.ck_script.specs.Numbered.{calls_in, numbers_in, IsNumbered}
 use Rattle.ck_io.specs.Clock.{ClockMeaning}
 use Rattle.ck_disk.specs.Disk.{Meaning, Rose}
 use Rattle.ck_model.specs.declared.reply.Reply.TheVariants.{Broken}
-use Rattle.ck_volume.specs.Opening.{opening}
 use Rattle.ck_volume.specs.Volume.{Follows, HasCause, is_read_fault}
 use Rattle.ck_admin.specs.Play.{replies_of, HasCauses, broken_by, BreaksFrom, lost_a_write, IsPlay, IsLater}
 
@@ -105,9 +105,9 @@ of_lines lines history numbered same actor =
     ∙ numbered actor ∙ ap (range_with_len 1) (sym (calls_as_many lines actor))
 
 -- what holds after the first so many lines
-pub record IsSoFar (lines : List Line) (clock : ClockMeaning) (old now : Meaning) (at : ℕ) (past : Past) (history : List Entry) : Type 0 where
-  pub leads : IsTrue old.tells → (texts : Texts) → past_of texts (call_at (calls_in lines)) (begun opening) history ≡ past
-  pub legal : IsTrue old.tells → (texts : Texts) → IsLegal texts (call_at (calls_in lines)) opening history
+pub record IsSoFar (lines : List Line) (clock : ClockMeaning) (w : World) (old now : Meaning) (at : ℕ) (past : Past) (history : List Entry) : Type 0 where
+  pub leads : IsTrue old.tells → (texts : Texts) → past_of texts (call_at (calls_in lines)) (begun w) history ≡ past
+  pub legal : IsTrue old.tells → (texts : Texts) → IsLegal texts (call_at (calls_in lines)) w history
   pub places : list_map place_of_entry history ≡ list_map place_of_line (take at lines)
   pub moments : IsTrue clock.tells → AllByRecursion (λ entry. entry.at ≡ clock.moment) history
   pub causes : HasCauses old now history
@@ -116,8 +116,8 @@ pub record IsSoFar (lines : List Line) (clock : ClockMeaning) (old now : Meaning
   pub broken : past.broken ≡ broken_by 0 None history
   pub later : IsLater old now
 
-pub started : (lines : List Line) (clock : ClockMeaning) (m : Meaning) (past : Past) → past ≡ begun opening → IsSoFar lines clock m m 0 past []
-started lines clock m past is = record {
+pub started : (lines : List Line) (clock : ClockMeaning) (w : World) (m : Meaning) (past : Past) → past ≡ begun w → IsSoFar lines clock w m m 0 past []
+started lines clock w m past is = record {
   leads = λ told texts. sym is;
   legal = λ told texts. tt;
   places = refl;
@@ -194,6 +194,12 @@ parts_at : (lines : List Line) (at : ℕ) (line : Line) → at < length lines �
 parts_at lines at line within is =
     sym (take-append-drop at lines) ∙ ap (λ rest. take at lines ++ rest) (drop-cons lines at line within ∙ ap (λ first. first ∷ drop (suc at) lines) (sym is))
 
+-- the call of the line at a place
+pub called_at : (lines : List Line) (at : ℕ) (line : Line) → IsNumbered lines → at < length lines → line ≡ get_or lines at line → call_at (calls_in lines) line.actor line.seq ≡ Some line.call
+called_at lines at line numbered within is =
+    let parts = parts_at lines at line within is in
+    ap (λ lines. call_at (calls_in lines) line.actor line.seq) parts ∙ call_here (take at lines) (drop (suc at) lines) line (subst IsNumbered parts numbered)
+
 -- what a volume's event says of the entry of a line
 pub record Answered (line : Line) (clock : ClockMeaning) (mid new : Meaning) (past next : Past) (entry : Entry) : Type 0 where
   pub actor : entry.actor ≡ line.actor
@@ -207,24 +213,21 @@ pub record Answered (line : Line) (clock : ClockMeaning) (mid new : Meaning) (pa
   pub later : IsLater mid new
 
 -- the entry of the next line
-pub goes_on : (lines : List Line) (clock : ClockMeaning) (old mid new : Meaning) (at : ℕ) (past next : Past) (history : List Entry) (line : Line) (entry : Entry) →
-    IsNumbered lines → at < length lines → line ≡ get_or lines at line → IsSoFar lines clock old mid at past history → Answered line clock mid new past next entry →
-    IsSoFar lines clock old new (suc at) next (history ++ entry ∷ [])
-goes_on lines clock old mid new at past next history line entry numbered within is so_far answered =
+pub goes_on : (lines : List Line) (clock : ClockMeaning) (w : World) (old mid new : Meaning) (at : ℕ) (past next : Past) (history : List Entry) (line : Line) (entry : Entry) →
+    IsNumbered lines → at < length lines → line ≡ get_or lines at line → IsSoFar lines clock w old mid at past history → Answered line clock mid new past next entry →
+    IsSoFar lines clock w old new (suc at) next (history ++ entry ∷ [])
+goes_on lines clock w old mid new at past next history line entry numbered within is so_far answered =
     let calls = call_at (calls_in lines) in
-    let parts = parts_at lines at line within is in
     let before = take at lines in
-    let after = drop (suc at) lines in
-    let called : calls line.actor line.seq ≡ Some line.call =
-    ap (λ lines. call_at (calls_in lines) line.actor line.seq) parts ∙ call_here before after line (subst IsNumbered parts numbered) in
+    let called = called_at lines at line numbered within is in
     let many : length history + 1 ≡ length (history ++ entry ∷ []) = simp length-append (omega arith) in
     let told_mid : IsTrue old.tells → IsTrue mid.tells = λ told. subst IsTrue (sym so_far.later.tells) told in
     record {
       leads = λ told texts.
-          past_of-append texts calls (begun opening) history (entry ∷ [])
+          past_of-append texts calls (begun w) history (entry ∷ [])
           ∙ ap (λ past. past_after texts calls past entry) (so_far.leads told texts)
           ∙ (answered.follows (told_mid told) texts calls called).leads;
-      legal = λ told texts. IsLegalFrom-append texts calls (begun opening) history (entry ∷ []) (so_far.legal told texts)
+      legal = λ told texts. IsLegalFrom-append texts calls (begun w) history (entry ∷ []) (so_far.legal told texts)
           (subst (λ past. IsLegalFrom texts calls past (entry ∷ [])) (sym (so_far.leads told texts)) ((answered.follows (told_mid told) texts calls called).legal, tt));
       places =
           map-append place_of_entry history (entry ∷ [])
@@ -251,8 +254,8 @@ goes_on lines clock old mid new at past next history line entry numbered within 
     taken_more lines at line within is = take-suc lines at line within ∙ ap (λ last. take at lines ++ last ∷ []) (sym is)
 
 -- all lines were played
-pub whole : (lines : List Line) (clock : ClockMeaning) (old now : Meaning) (past : Past) (history : List Entry) → IsNumbered lines → (at : ℕ) → length lines ≤ at → IsSoFar lines clock old now at past history → IsPlay (calls_in lines) clock old now history
-whole lines clock old now past history numbered at all so_far = record {
+pub whole : (lines : List Line) (clock : ClockMeaning) (w : World) (old now : Meaning) (past : Past) (history : List Entry) → IsNumbered lines → (at : ℕ) → length lines ≤ at → IsSoFar lines clock w old now at past history → IsPlay (calls_in lines) clock w old now history
+whole lines clock w old now past history numbered at all so_far = record {
   legal = so_far.legal;
   of_script = of_lines lines history numbered (so_far.places ∙ ap (list_map place_of_line) (take_all at lines all));
   moments = so_far.moments;

@@ -1,21 +1,53 @@
--- What is printed of a play.
-use Rattle.std.proofs.Common.{◌≡◌, ◌≤◌, ◌+◌, Bool, true, false, ℕ, IsTrue, List, [], ◌∷◌, Result, Ok, Err, OnOk, IfErr, inl, inr, refl, arith, if◌then◌else◌}
-use Rattle.std.specs.Prelude.{◌||◌}
-use Rattle.ck_disk.specs.Disk.{Meaning, Rose}
+-- How a play ends, by what its parts answer.
+use Rattle.std.proofs.Common.{◌≡◌, ◌⊎◌, inl, inr, ⊎_elim, ℕ, zero, suc, ◌+◌, ◌<◌, ◌≤◌, Bool, true, false, ◌||◌, IsTrue, List, [], ◌∷◌, length, take, get_or, if◌then◌else◌, refl, sym, ap, ◌∙◌, subst, arith}
+use Rattle.std.specs.Prelude.{◌-◌, ◌^◌, min, Result, Ok, Err, OnOk, IfErr}
+use Rattle.ck_disk.specs.Disk.{Image, Meaning, Lawful, Agrees, IsClean, IsSynced, LeavesOnly, Rose}
+use Rattle.ck_model.specs.declared.call.Call.{Call}
 use Rattle.ck_model.specs.declared.entry.Entry.{Entry}
-use Rattle.ck_model.specs.History.{call_at, is_write_fault}
-use Rattle.ck_script.specs.Numbered.{calls_in}
-use Rattle.ck_script.specs.Reading.{Parsed, read_script}
+use Rattle.ck_model.specs.Streams.{Texts}
+use Rattle.ck_model.specs.World.{World, unmounted}
+use Rattle.ck_model.specs.History.{CallsBy, call_at, is_write_fault}
 use Rattle.ck_report.specs.declared.status.Status.{Status}
 use Rattle.ck_report.specs.declared.status.Status.TheVariants.{Done, Refused, Usage, BadScript, NotOpened, DeviceFault, SourceFault, SinkFault, NoMemory}
 use Rattle.ck_report.specs.Transcript.{transcript_text}
+use Rattle.ck_script.specs.Numbered.{calls_in}
+use Rattle.ck_script.specs.Reading.{Parsed, read_script}
 use Rattle.ck_io.specs.Clock.{ClockMeaning}
 use Rattle.ck_io.specs.Sink.{SinkMeaning}
 use Rattle.ck_io.specs.Source.{SourceMeaning}
-use Rattle.ck_volume.specs.Opening.{device_blocks}
+use Rattle.ck_volume.specs.declared.closing.CommitAnswer.{CommitAnswer}
+use Rattle.ck_volume.specs.declared.closing.CommitAnswer.TheVariants as answer
+use Rattle.ck_volume.specs.Recovering.{Recovers}
+use Rattle.ck_admin.specs.Ending.{IsPrinted, IsUnplayed, EndsOn}
+use Rattle.ck_admin.specs.Crash.{synced_count, RecoversCut, CutFrom, LeavesCuts, found_broken, IsPlayed}
 use Rattle.ck_admin.specs.Play.{IsPlay, HasCauses, replies_of, lost_a_write}
-use Rattle.ck_admin.specs.Statuses.{IsPrintFault, play_status}
-use Rattle.ck_admin.specs.Top.{PrintsPlay, Gains, GainsFront, GainsAllOrNothing, EndsPlay, leaves_device}
+use Rattle.ck_admin.specs.Statuses.{IsPrintFault, IsOpenStatus, play_status}
+use Rattle.ck_admin.specs.Top.{PrintsPlay, EndsWhole, EndsAnyhow, LostNothing, Gains, GainsFront, GainsNothing, GainsAllOrNothing, EndsPlay, leaves_device}
+use Rattle.ck_volume.proofs.OpenLemmas.{leaves_on}
+use Rattle.ck_admin.proofs.PlayedLemmas.{rose_later}
+
+-- ---- a device without unsynced writes
+
+-- lists that are the same at each place
+same_list : {A : Type 0} (xs ys : List A) (d : A) → length xs ≡ length ys → ((k : ℕ) → get_or xs k d ≡ get_or ys k d) → xs ≡ ys
+same_list [] [] d size at = refl
+same_list [] (y ∷ ys) d size at = absurd (omega (arith, size))
+same_list (x ∷ xs) [] d size at = absurd (omega (arith, size))
+same_list (x ∷ xs) (y ∷ ys) d size at = let rest = same_list xs ys d (omega (arith, size)) (λ k. at (suc k)) in λ i. at 0 i ∷ rest i
+
+-- a crash leaves what reads give
+pub synced_image : (m : Meaning) → Lawful m → IsTrue m.tells → IsSynced m → (image : Image) → m.may_leave image → image ≡ m.shows
+synced_image m law told synced image left =
+    let same : Agrees (IsClean m) m.shows image = law.clean told image left in
+    same_list image m.shows [] same.size (λ k. same.at k (synced k))
+
+-- ---- counts
+
+causes_earlier : (before mid after : Meaning) (history : List Entry) → before.read_faults ≤ mid.read_faults → before.write_faults ≤ mid.write_faults → HasCauses mid after history → HasCauses before after history
+causes_earlier before mid after history reads writes causes = record {
+  reads = omega (arith, reads, causes.reads);
+  writes = omega (arith, writes, causes.writes);
+}
 
 -- a history that lost a write has an entry that tells of it
 some_lost : (history : List Entry) → lost_a_write history ≡ true → 1 ≤ replies_of is_write_fault history
@@ -30,44 +62,124 @@ some_lost (entry ∷ history) h =
 pub lost-rose : (before after : Meaning) (history : List Entry) → HasCauses before after history → lost_a_write history ≡ true → Rose before.write_faults after.write_faults
 lost-rose before after history causes lost = let some = some_lost history lost in omega (arith, causes.writes, some)
 
-module _ (source left : SourceMeaning) (clock : ClockMeaning) (old new : SinkMeaning) (before after : Meaning) (read : Parsed) (history : List Entry)
-    (script : IsTrue source.tells → read_script source.left ≡ Ok read) (long : device_blocks ≤ before.size) (play : IsPlay (calls_in read.calls) clock before after history) where
+-- ---- a play from an opened device
+
+module _ (source left : SourceMeaning) (clock : ClockMeaning) (old new : SinkMeaning) (before mid after : Meaning) (law : Lawful before) (read : Parsed) (w : World) (history : List Entry) (committed : CommitAnswer)
+    (script : IsTrue source.tells → read_script source.left ≡ Ok read)
+    (bare : w ≡ unmounted w) (recovers : IsTrue before.tells → Recovers before.shows w) (opened : LeavesOnly before mid before.may_leave)
+    (played : IsPlayed (calls_in read.calls) clock w mid after history committed) where
+  abbrev calls : CallsBy
+  calls = call_at (calls_in read.calls)
+
   abbrev text : List ℕ
-  text = transcript_text (call_at (calls_in read.calls)) history
+  text = transcript_text calls history
 
-  prints : (lost : Bool) (P : List ℕ → Type 0) → lost_a_write history ≡ lost → P text → PrintsPlay source clock before after lost P
-  prints lost P is printed = record { read = read; history = history; script = script; long = long; play = play; write_faults = is; printed = printed }
+  told_mid : IsTrue before.tells → IsTrue mid.tells
+  told_mid told = subst IsTrue (sym opened.tells) told
 
-  -- printing the transcript failed, of a play that lost no write
-  unprinted : lost_a_write history ≡ false → (status : Status) → IsPrintFault old new text status → EndsPlay source left clock old new before after status
-  unprinted whole Done fault = absurd fault
-  unprinted whole (Refused words) fault = absurd fault
-  unprinted whole Usage fault = absurd fault
-  unprinted whole (BadScript line) fault = absurd fault
-  unprinted whole (NotOpened words) fault = absurd fault
-  unprinted whole DeviceFault fault = absurd fault
-  unprinted whole SourceFault fault = absurd fault
-  unprinted whole SinkFault fault = (fault.cause, prints false (GainsFront old new) whole fault.part)
-  unprinted whole NoMemory fault = fault
+  from_before : IsPlay (calls_in read.calls) clock w before after history
+  from_before = record {
+    legal = λ told. played.play.legal (told_mid told);
+    of_script = played.play.of_script;
+    moments = played.play.moments;
+    causes = causes_earlier before mid after history opened.reads opened.writes played.play.causes;
+    breaks = played.play.breaks;
+  }
 
-  -- and of one that lost one
-  lost_unprinted : (status : Status) → IsPrintFault old new text status → GainsAllOrNothing old new text
-  lost_unprinted Done fault = absurd fault
-  lost_unprinted (Refused words) fault = absurd fault
-  lost_unprinted Usage fault = absurd fault
-  lost_unprinted (BadScript line) fault = absurd fault
-  lost_unprinted (NotOpened words) fault = absurd fault
-  lost_unprinted DeviceFault fault = absurd fault
-  lost_unprinted SourceFault fault = absurd fault
-  lost_unprinted SinkFault fault = inr (inr (fault.cause, fault.part))
-  lost_unprinted NoMemory fault = inr (inl fault)
+  cut_from : (least : ℕ) (image : Image) → CutFrom mid calls w history least image → CutFrom before calls w history least image
+  cut_from least image cut told = cut (told_mid told)
 
-  pub ends_play : (lost : Bool) → lost_a_write history ≡ lost → (printed : Result (Unit {0}) Status) → OnOk printed (Gains old new text) → IfErr printed (λ status. IsPrintFault old new text status)
-      → EndsPlay source left clock old new before after (play_status lost printed)
-  ends_play false is (Ok done) whole fault = prints false (Gains old new) is whole
-  ends_play false is (Err status) whole fault = unprinted is status fault
-  ends_play true is (Ok done) whole fault = (lost-rose before after history play.causes is, prints true (GainsAllOrNothing old new) is (inl whole))
-  ends_play true is (Err status) whole fault = (lost-rose before after history play.causes is, prints true (GainsAllOrNothing old new) is (lost_unprinted status fault))
+  unsynced : (image : Image) → after.left_since before.moment image → before.may_leave image ⊎ CutFrom before calls w history 0 image
+  unsynced image since =
+      ⊎_elim
+      (λ (was : mid.left_since before.moment image). inl (opened.each image was))
+      (λ (cut : CutFrom mid calls w history 0 image). inr (cut_from 0 image cut))
+      (played.any_moment.before before.moment image opened.later since)
+
+  -- the world that the device recovered to is the cut without entries
+  none_yet : IsSynced before → IsTrue before.tells → (image : Image) → before.may_leave image → RecoversCut calls w history 0 image
+  none_yet synced told image may = record {
+    count = 0;
+    least_is = omega arith;
+    within = omega arith;
+    recovers = λ texts. subst (λ c. Recovers c (unmounted w)) (sym (synced_image before law told synced image may)) (subst (Recovers before.shows) bare (recovers told));
+  }
+
+  cuts : LeavesCuts calls w before after history
+  cuts = record {
+    any_moment = λ synced image since told.
+        ⊎_elim
+        (λ (may : before.may_leave image). none_yet synced told image may)
+        (λ (cut : CutFrom before calls w history 0 image). cut told)
+        (unsynced image since);
+    unsynced = unsynced;
+    at_the_end = λ image may. cut_from (synced_count calls history) image (played.at_the_end image may);
+  }
+
+  prints : (E : CallsBy → World → List Entry → Type 0) (P : List ℕ → Type 0) → E calls w history → P text → PrintsPlay source clock before after E P
+  prints E P ends printed = record { read = read; world = w; history = history; script = script; recovers = recovers; play = from_before; leaves = cuts; ends = ends; printed = printed }
+
+  ends_whole : committed ≡ answer.Done → EndsWhole after calls w history
+  ends_whole done = record {
+    no_fault = played.lost ∙ ap found_broken done;
+    exact = λ told. played.exact done (subst IsTrue played.any_moment.tells told);
+  }
+
+  lost_nothing : found_broken committed ≡ false → LostNothing calls w history
+  lost_nothing found = played.lost ∙ found
+
+  -- what printing gained, however it ended
+  gained_fault : (status : Status) → IsPrintFault old new text status → GainsAllOrNothing old new text
+  gained_fault Done fault = absurd fault
+  gained_fault (Refused words) fault = absurd fault
+  gained_fault Usage fault = absurd fault
+  gained_fault (BadScript line) fault = absurd fault
+  gained_fault (NotOpened words) fault = absurd fault
+  gained_fault DeviceFault fault = absurd fault
+  gained_fault SourceFault fault = absurd fault
+  gained_fault SinkFault fault = inr (inr (fault.cause, fault.part))
+  gained_fault NoMemory fault = inr (inl fault)
+
+  gained : (printed : Result (Unit {0}) Status) → OnOk printed (Gains old new text) → IfErr printed (λ status. IsPrintFault old new text status) → GainsAllOrNothing old new text
+  gained (Ok done) whole fault = inl whole
+  gained (Err status) whole fault = gained_fault status fault
+
+  unprinted : committed ≡ answer.Done → (status : Status) → IsPrintFault old new text status → EndsPlay source left clock old new before after status
+  unprinted done Done fault = absurd fault
+  unprinted done (Refused words) fault = absurd fault
+  unprinted done Usage fault = absurd fault
+  unprinted done (BadScript line) fault = absurd fault
+  unprinted done (NotOpened words) fault = absurd fault
+  unprinted done DeviceFault fault = absurd fault
+  unprinted done SourceFault fault = absurd fault
+  unprinted done SinkFault fault = (fault.cause, prints (EndsWhole after) (GainsFront old new) (ends_whole done) fault.part)
+  unprinted done NoMemory fault = inr (prints LostNothing (GainsAllOrNothing old new) (lost_nothing (ap found_broken done)) (inr (inl fault)))
+
+  lost_write : Rose before.write_faults after.write_faults → (printed : Result (Unit {0}) Status) → OnOk printed (Gains old new text) → IfErr printed (λ status. IsPrintFault old new text status)
+      → EndsPlay source left clock old new before after DeviceFault
+  lost_write rose printed whole fault = inr (rose, prints EndsAnyhow (GainsAllOrNothing old new) tt (gained printed whole fault))
+
+  pub ends_play : (how : CommitAnswer) → committed ≡ how → (printed : Result (Unit {0}) Status) → OnOk printed (Gains old new text) → IfErr printed (λ status. IsPrintFault old new text status)
+      → EndsPlay source left clock old new before after (play_status how printed)
+  ends_play answer.Done is (Ok done) whole fault = prints (EndsWhole after) (Gains old new) (ends_whole is) whole
+  ends_play answer.Done is (Err status) whole fault = unprinted is status fault
+  ends_play answer.WriteFault is printed whole fault = lost_write (rose_later before.write_faults mid.write_faults after.write_faults opened.writes (played.cause is)) printed whole fault
+  ends_play (answer.Broken number) is printed whole fault = lost_write (lost-rose before after history from_before.causes (played.lost ∙ ap found_broken is)) printed whole fault
+  ends_play answer.NoMemory is printed whole fault = inr (prints LostNothing (GainsAllOrNothing old new) (lost_nothing (ap found_broken is)) (gained printed whole fault))
+
+-- a play on a device that was opened
+pub ends_opened : (source left : SourceMeaning) (clock : ClockMeaning) (old new : SinkMeaning) (before mid after : Meaning) → Lawful before → Lawful mid → (read : Parsed) (w : World) (status : Status)
+    → (IsTrue source.tells → read_script source.left ≡ Ok read) → w ≡ unmounted w → (IsTrue before.tells → Recovers before.shows w) → LeavesOnly before mid before.may_leave
+    → EndsOn (calls_in read.calls) clock w mid after old new status → EndsPlay source left clock old new before after status
+ends_opened source left clock old new before mid after law mid_law read w status script bare recovers opened ends =
+    ⊎_elim
+    (λ (un : IsUnplayed mid after old new status).
+    subst (EndsPlay source left clock old new before after) (sym un.status_is)
+    (inl (un.nothing, leaves_on before mid after mid_law opened un.left)))
+    (λ (p : IsPrinted (calls_in read.calls) clock w mid after old new status).
+    subst (EndsPlay source left clock old new before after) (sym p.status_is)
+    (ends_play source left clock old new before mid after law read w p.history p.committed script bare recovers opened p.played p.committed refl p.printed p.whole p.fault))
+    ends
 
 print_begun : (old new : SinkMeaning) (text : List ℕ) (status : Status) → IsPrintFault old new text status → leaves_device status ≡ false
 print_begun old new text Done fault = absurd fault
@@ -81,8 +193,53 @@ print_begun old new text SinkFault fault = refl
 print_begun old new text NoMemory fault = refl
 
 -- a play ends with a status that comes once the device was opened
-pub play_begun : (old new : SinkMeaning) (text : List ℕ) (lost : Bool) (printed : Result (Unit {0}) Status) → IfErr printed (λ status. IsPrintFault old new text status) → leaves_device (play_status lost printed) ≡ false
-play_begun old new text false (Ok done) fault = refl
-play_begun old new text true (Ok done) fault = refl
-play_begun old new text false (Err status) fault = print_begun old new text status fault
-play_begun old new text true (Err status) fault = refl
+pub play_begun : (old new : SinkMeaning) (text : List ℕ) (committed : CommitAnswer) (printed : Result (Unit {0}) Status) → IfErr printed (λ status. IsPrintFault old new text status) → leaves_device (play_status committed printed) ≡ false
+play_begun old new text answer.Done (Ok done) fault = refl
+play_begun old new text answer.Done (Err status) fault = print_begun old new text status fault
+play_begun old new text answer.WriteFault printed fault = refl
+play_begun old new text (answer.Broken number) printed fault = refl
+play_begun old new text answer.NoMemory printed fault = refl
+
+-- it ends with a status that comes once the device was opened
+pub ends_begun : (script : List (ℕ × Call)) (clock : ClockMeaning) (w : World) (mid after : Meaning) (old new : SinkMeaning) (status : Status) → EndsOn script clock w mid after old new status → leaves_device status ≡ false
+ends_begun script clock w mid after old new status ends =
+    ⊎_elim
+    (λ (un : IsUnplayed mid after old new status). ap leaves_device un.status_is)
+    (λ (p : IsPrinted script clock w mid after old new status).
+    ap leaves_device p.status_is ∙ play_begun old new (transcript_text (call_at script) p.history) p.committed p.printed p.fault)
+    ends
+
+-- ---- a device that isn't opened
+
+pub open_begun : (before after : Meaning) (status : Status) → IsOpenStatus before after status → leaves_device status ≡ false
+open_begun before after Done is = absurd is
+open_begun before after (Refused words) is = absurd is
+open_begun before after Usage is = absurd is
+open_begun before after (BadScript line) is = absurd is
+open_begun before after (NotOpened words) is = refl
+open_begun before after DeviceFault is = refl
+open_begun before after SourceFault is = absurd is
+open_begun before after SinkFault is = absurd is
+open_begun before after NoMemory is = refl
+
+pub open_leaves : (before after : Meaning) (status : Status) → IsOpenStatus before after status → LeavesOnly before after before.may_leave
+open_leaves before after Done is = absurd is
+open_leaves before after (Refused words) is = absurd is
+open_leaves before after Usage is = absurd is
+open_leaves before after (BadScript line) is = absurd is
+open_leaves before after (NotOpened words) is = is.left
+open_leaves before after DeviceFault is = is.1
+open_leaves before after SourceFault is = absurd is
+open_leaves before after SinkFault is = absurd is
+open_leaves before after NoMemory is = is
+
+pub ends_unopened : (source left : SourceMeaning) (clock : ClockMeaning) (out : SinkMeaning) (before after : Meaning) (status : Status) → IsOpenStatus before after status → EndsPlay source left clock out out before after status
+ends_unopened source left clock out before after Done is = absurd is
+ends_unopened source left clock out before after (Refused words) is = absurd is
+ends_unopened source left clock out before after Usage is = absurd is
+ends_unopened source left clock out before after (BadScript line) is = absurd is
+ends_unopened source left clock out before after (NotOpened words) is = (is, λ told. refl)
+ends_unopened source left clock out before after DeviceFault is = inl (is.0, ((λ told. refl), is.1))
+ends_unopened source left clock out before after SourceFault is = absurd is
+ends_unopened source left clock out before after SinkFault is = absurd is
+ends_unopened source left clock out before after NoMemory is = inl ((λ told. refl), is)

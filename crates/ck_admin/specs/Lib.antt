@@ -1,4 +1,6 @@
 pub mod Play
 pub mod Refusals
 pub mod Statuses
+pub mod Crash
 pub mod Top
+pub mod Ending

@@ -9,9 +9,9 @@ use Rattle.ck_model.specs.declared.entry.Entry.{Entry}
 use Rattle.ck_model.specs.declared.reply.Reply.{Reply}
 use Rattle.ck_model.specs.declared.reply.Reply.TheVariants.{Broken}
 use Rattle.ck_model.specs.Streams.{Texts}
+use Rattle.ck_model.specs.World.{World}
 use Rattle.ck_model.specs.History.{IsLegal, IsOfScript, call_at, is_write_fault, is_broken}
 use Rattle.ck_volume.specs.Volume.{is_read_fault}
-use Rattle.ck_volume.specs.Opening.{opening}
 
 -- how many entries have such a reply
 abbrev pub replies_of : (Reply → Bool) → List Entry → ℕ
@@ -41,9 +41,9 @@ abbrev pub lost_a_write : List Entry → Bool
 lost_a_write history = list_any (λ entry. is_write_fault entry.reply) history
 
 -- The history has each actor's calls, each once and in their order. Where the device tells what it holds, it is legal
--- from the opening world, whatever the texts of streams are. Its moments are the clock's. Faults have their causes.
-pub record IsPlay (script : List (ℕ × Call)) (clock : ClockMeaning) (old new : Meaning) (history : List Entry) : Type 0 where
-  pub legal : IsTrue old.tells → (texts : Texts) → IsLegal texts (call_at script) opening history
+-- from the opening world w, whatever the texts of streams are. Its moments are the clock's. Faults have their causes.
+pub record IsPlay (script : List (ℕ × Call)) (clock : ClockMeaning) (w : World) (old new : Meaning) (history : List Entry) : Type 0 where
+  pub legal : IsTrue old.tells → (texts : Texts) → IsLegal texts (call_at script) w history
   pub of_script : IsOfScript script history
   pub moments : IsTrue clock.tells → AllByRecursion (λ entry. entry.at ≡ clock.moment) history
   pub causes : HasCauses old new history

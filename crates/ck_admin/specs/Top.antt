@@ -1,9 +1,11 @@
 -- What the top call promises.
-use Rattle.std.specs.Prelude.{◌≡◌, ◌≤◌, ◌<◌, ◌++◌, ◌⊎◌, ℕ, Bool, true, false, nat_eq, List, [], ◌∷◌, IsTrue, Ok, Err, codes}
-use Rattle.std.specs.Cmp.Lexicographic.{pointwise}
-use Rattle.ck_disk.specs.Disk.{Meaning, Rose}
+use Rattle.std.specs.Prelude.{◌≡◌, ◌≤◌, ◌<◌, ◌++◌, ◌⊎◌, ⊤, ℕ, Bool, true, false, List, Option, Some, None, IsTrue, Ok, Err}
+use Rattle.ck_disk.specs.Disk.{Image, Meaning, LeavesOnly, Rose}
+use Rattle.ck_log.specs.Layout.{size_of}
 use Rattle.ck_model.specs.declared.entry.Entry.{Entry}
-use Rattle.ck_model.specs.History.{call_at}
+use Rattle.ck_model.specs.History.{CallsBy, call_at, state}
+use Rattle.ck_model.specs.Streams.{Texts}
+use Rattle.ck_model.specs.World.{World, unmounted}
 use Rattle.ck_report.specs.declared.status.Status.{Status}
 use Rattle.ck_report.specs.declared.status.Status.TheVariants.{Done, Refused, Usage, BadScript, NotOpened, DeviceFault, SourceFault, SinkFault, NoMemory}
 use Rattle.ck_report.specs.Transcript.{transcript_text}
@@ -14,19 +16,40 @@ use Rattle.ck_io.specs.Sink.{SinkMeaning}
 use Rattle.ck_io.specs.Source.{SourceMeaning}
 use Rattle.ck_script.specs.Numbered.{calls_in}
 use Rattle.ck_script.specs.Reading.{Parsed, read_script}
-use Rattle.ck_volume.specs.Opening.{device_blocks}
+use Rattle.ck_volume.specs.Exact.{IsExact}
+use Rattle.ck_volume.specs.Formatting.{new_world}
+use Rattle.ck_volume.specs.Recovering.{Recovers}
+use Rattle.ck_words.specs.declared.command.Command.{Command}
+use Rattle.ck_words.specs.declared.command.Command.TheVariants.{Play, Mkfs}
+use Rattle.ck_admin.specs.Crash.{LeavesCuts}
 use Rattle.ck_admin.specs.Play.{IsPlay, lost_a_write}
+use Rattle.ck_admin.specs.Refusals.{bad_size_words}
+use Rattle.ck_admin.specs.Statuses.{IsRefused, DeviceRose}
 
--- What the source had left is a script, this is a play of it on the device, which is long enough, and P holds of the
--- play's transcript. A write of it failed or not. A source that doesn't tell what it had left may have had any script.
-pub record PrintsPlay (source : SourceMeaning) (clock : ClockMeaning) (before after : Meaning) (lost : Bool) (P : List ℕ → Type 0) : Type 0 where
+-- What the source had left is a script, the device recovers to a world, and this is a play of the script from it. P holds
+-- of the play's transcript, and E of its calls, its world and its history. A source that doesn't tell what it had left may
+-- have had any script.
+pub record PrintsPlay (source : SourceMeaning) (clock : ClockMeaning) (before after : Meaning) (E : CallsBy → World → List Entry → Type 0) (P : List ℕ → Type 0) : Type 0 where
   pub read : Parsed
+  pub world : World
   pub history : List Entry
   pub script : IsTrue source.tells → read_script source.left ≡ Ok read
-  pub long : device_blocks ≤ before.size
-  pub play : IsPlay (calls_in read.calls) clock before after history
-  pub write_faults : lost_a_write history ≡ lost
+  pub recovers : IsTrue before.tells → Recovers before.shows world
+  pub play : IsPlay (calls_in read.calls) clock world before after history
+  pub leaves : LeavesCuts (call_at (calls_in read.calls)) world before after history
+  pub ends : E (call_at (calls_in read.calls)) world history
   pub printed : P (transcript_text (call_at (calls_in read.calls)) history)
+
+-- no write was lost, and each image has the world after the whole history, without its mounts and with nothing beside it
+pub record EndsWhole (after : Meaning) (calls : CallsBy) (world : World) (history : List Entry) : Type 0 where
+  pub no_fault : lost_a_write history ≡ false
+  pub exact : IsTrue after.tells → (texts : Texts) (image : Image) → after.may_leave image → IsExact (unmounted (state texts calls world history)) image
+
+abbrev pub EndsAnyhow : CallsBy → World → List Entry → Type 0
+EndsAnyhow calls world history = ⊤
+
+abbrev pub LostNothing : CallsBy → World → List Entry → Type 0
+LostNothing calls world history = lost_a_write history ≡ false
 
 -- where the sink tells what it holds, it gained this text
 abbrev pub Gains : SinkMeaning → SinkMeaning → List ℕ → Type 0
@@ -43,24 +66,36 @@ GainsNothing old new = IsTrue old.tells → new.holds ≡ old.holds
 abbrev pub GainsAllOrNothing : SinkMeaning → SinkMeaning → List ℕ → Type 0
 GainsAllOrNothing old new text = Gains old new text ⊎ (GainsNothing old new ⊎ (io.Rose old.faults new.faults × GainsFront old new text))
 
--- how a play ends: why, and what is printed then
+-- nothing was printed, and a crash leaves what it could leave before
+abbrev pub PlaysNothing : SinkMeaning → SinkMeaning → Meaning → Meaning → Type 0
+PlaysNothing old new before after = GainsNothing old new × LeavesOnly before after before.may_leave
+
+-- how a play ends: why, what is printed then, and what a crash leaves
 abbrev pub EndsPlay : SourceMeaning → SourceMeaning → ClockMeaning → SinkMeaning → SinkMeaning → Meaning → Meaning → Status → Type 0
-EndsPlay source left clock old new before after Done = PrintsPlay source clock before after false (Gains old new)
+EndsPlay source left clock old new before after Done = PrintsPlay source clock before after (EndsWhole after) (Gains old new)
 EndsPlay source left clock old new before after (Refused words) = ⊥
 EndsPlay source left clock old new before after Usage = ⊥
 EndsPlay source left clock old new before after (BadScript line) = (IsTrue source.tells → read_script source.left ≡ Err line) × GainsNothing old new
-EndsPlay source left clock old new before after (NotOpened words) = (words ≡ codes "NotVolume") × (before.size < device_blocks) × GainsNothing old new
+EndsPlay source left clock old new before after (NotOpened words) = IsRefused before after words × GainsNothing old new
 EndsPlay source left clock old new before after DeviceFault =
-    Rose before.write_faults after.write_faults × PrintsPlay source clock before after true (GainsAllOrNothing old new)
+    (DeviceRose before after × PlaysNothing old new before after)
+    ⊎ (Rose before.write_faults after.write_faults × PrintsPlay source clock before after EndsAnyhow (GainsAllOrNothing old new))
 EndsPlay source left clock old new before after SourceFault = io.Rose source.faults left.faults × GainsNothing old new
-EndsPlay source left clock old new before after SinkFault = io.Rose old.faults new.faults × PrintsPlay source clock before after false (GainsFront old new)
-EndsPlay source left clock old new before after NoMemory = GainsNothing old new
+EndsPlay source left clock old new before after SinkFault = io.Rose old.faults new.faults × PrintsPlay source clock before after (EndsWhole after) (GainsFront old new)
+EndsPlay source left clock old new before after NoMemory = PlaysNothing old new before after ⊎ PrintsPlay source clock before after LostNothing (GainsAllOrNothing old new)
 
--- the one word `play`
-abbrev pub is_play_word : List (List ℕ) → Bool
-is_play_word [] = false
-is_play_word (word ∷ []) = pointwise nat_eq word (codes "play")
-is_play_word (word ∷ other ∷ words) = false
+-- How a device is made a volume: each image that a crash leaves has the empty world and nothing beside it, or it is too
+-- short, or it failed.
+abbrev pub EndsMkfs : ℕ → ℕ → Meaning → Meaning → Status → Type 0
+EndsMkfs blocks records before after Done = IsTrue before.tells → (image : Image) → after.may_leave image → IsExact (new_world blocks records) image
+EndsMkfs blocks records before after (Refused words) = ⊥
+EndsMkfs blocks records before after Usage = ⊥
+EndsMkfs blocks records before after (BadScript line) = ⊥
+EndsMkfs blocks records before after (NotOpened words) = (words ≡ bad_size_words (size_of blocks records) before.size) × (before.size < size_of blocks records)
+EndsMkfs blocks records before after DeviceFault = Rose before.write_faults after.write_faults
+EndsMkfs blocks records before after SourceFault = ⊥
+EndsMkfs blocks records before after SinkFault = ⊥
+EndsMkfs blocks records before after NoMemory = ⊤
 
 abbrev pub is_usage : Status → Bool
 is_usage Done = false
@@ -73,17 +108,22 @@ is_usage SourceFault = false
 is_usage SinkFault = false
 is_usage NoMemory = false
 
--- such an end comes before any call of the device
+-- such an end of a play comes before any call of the device
 abbrev pub leaves_device : Status → Bool
 leaves_device Done = false
 leaves_device (Refused words) = false
 leaves_device Usage = true
 leaves_device (BadScript line) = true
-leaves_device (NotOpened words) = true
+leaves_device (NotOpened words) = false
 leaves_device DeviceFault = false
 leaves_device SourceFault = true
 leaves_device SinkFault = false
 leaves_device NoMemory = false
+
+abbrev pub is_play : Option Command → Bool
+is_play None = false
+is_play (Some Play) = true
+is_play (Some (Mkfs blocks records)) = false
 
 -- nothing is read and nothing printed
 pub record IsUntouched (before after : SourceMeaning) (old new : SinkMeaning) : Type 0 where

@@ -1,27 +1,32 @@
-ghost use Rattle.std.specs.Prelude.{◌≡◌, ◌≤◌, ◌++◌, ◌⊎◌, false, Ok, not, IsTrue, length, string_bytes, map as list_map};
+ghost use Rattle.std.specs.Prelude.{◌≡◌, ◌≤◌, ◌<◌, ◌++◌, ◌⊎◌, false, ℕ, Ok, Some, IsTrue, length, is_none, string_bytes, map as list_map};
 ghost use Rattle.std.specs.Bool.{OnTrue, OnFalse};
 ghost use Rattle.std.specs.List.{AllByRecursion};
 ghost use Rattle.ck_io.specs.Bytes.{GainsPrefix};
 ghost use Rattle.ck_io.specs.Faults.{Rose};
-ghost use Rattle.ck_io.specs.Source.{SourceMeaning};
+ghost use Rattle.ck_log.specs.Layout.{size_of};
 ghost use Rattle.ck_report.specs.Status.{status_line};
-ghost use Rattle.ck_script.specs.Reading.{read_script};
+ghost use Rattle.ck_script.specs.Numbered.{calls_in};
 ghost use Rattle.ck_volume.specs.Built.{IsBuilt};
-ghost use Rattle.ck_volume.specs.Opening.{IsOpened, device_blocks};
-ghost use Rattle.ck_volume.specs.Volume.{disk_of};
+ghost use Rattle.ck_volume.specs.Opening.{IsBegun};
+ghost use Rattle.ck_volume.specs.Volume.{disk_of, world_of, KeepsWorld};
+ghost use Rattle.ck_words.specs.declared.command.Command.TheVariants.{Play, Mkfs};
+ghost use Rattle.ck_words.specs.Words.{command_of};
+ghost use Rattle.ck_admin.specs.Ending.{EndsOn};
 ghost use Rattle.ck_admin.specs.Play.{IsLater};
-ghost use Rattle.ck_admin.specs.Statuses.{IsNotVolume, play_status};
-ghost use Rattle.ck_admin.specs.Top.{is_play_word, is_usage, leaves_device, IsUntouched, EndsPlay};
+ghost use Rattle.ck_admin.specs.Statuses.{play_status};
+ghost use Rattle.ck_admin.specs.Top.{is_usage, is_play, leaves_device, IsUntouched, EndsPlay, EndsMkfs};
 
-use crate::playing::play;
+use crate::mkfs::mkfs;
+use crate::opening::open;
+use crate::playing::play_and_commit;
 use crate::print::print;
 use crate::read::read;
 use ck_disk::Disk;
 use ck_io::{Clock, Sink, Source};
-use ck_model::Octets;
 use ck_report::{Status, fault_line};
 use ck_script::Script;
-use ck_volume::{OpenFault, Volume};
+use ck_volume::{CommitAnswer, Volume};
+use ck_words::{Command, match_words};
 use std::alloc::Global;
 
 /// How a command ended, and the device that was handed in.
@@ -31,39 +36,22 @@ pub struct Ended<D> {
     pub disk: D,
 }
 
-fn is_play(words: &[String]) -> bool
-    ensures { result ≡ is_play_word (list_map string_bytes words.now) }
+/// The status of a play: how the commit behind it ended comes before what printing said.
+fn status_of(committed: CommitAnswer, printed: Result<(), Status>) -> Status
+    ensures { result ≡ play_status committed printed }
 {
-    match words {
-        [word] => word.as_str() == "play",
-        _ => false,
+    match committed {
+        CommitAnswer::Done => match printed {
+            Ok(()) => Status::Done,
+            Err(status) => status,
+        },
+        CommitAnswer::WriteFault | CommitAnswer::Broken(_) => Status::DeviceFault,
+        CommitAnswer::NoMemory => Status::NoMemory,
     }
 }
 
-/// The status that says why a device isn't opened.
-fn not_volume(alloc: Global) -> Status
-    ensures { IsNotVolume result }
-{
-    match Vec::from_slice(alloc, b"NotVolume") {
-        Ok(words) => Status::NotOpened(Octets::of(words)),
-        Err(_) => Status::NoMemory,
-    }
-}
-
-/// The status of a play: that a write failed comes before what printing said.
-fn status_of(lost: bool, printed: Result<(), Status>) -> Status
-    ensures { result ≡ play_status lost printed }
-{
-    if lost {
-        return Status::DeviceFault;
-    }
-    match printed {
-        Ok(()) => Status::Done,
-        Err(status) => status,
-    }
-}
-
-// Plays a script on an opened volume, and prints its transcript.
+// Plays a script on an opened volume, commits, and prints the transcript. The transcript is printed also where a write
+// was lost.
 fn play_volume<K: Sink, D: Disk, C: Clock>(
     alloc: Global,
     script: &Script,
@@ -71,26 +59,25 @@ fn play_volume<K: Sink, D: Disk, C: Clock>(
     out: &mut K,
     clock: &mut C,
 ) -> Ended<D>
-    requires opened { IsOpened (disk_of volume) volume }
-    requires long { device_blocks ≤ (D.means (disk_of volume)).size }
+    requires begun { IsBegun (D.means (disk_of volume)) volume }
+    requires kept { IsTrue (D.means (disk_of volume)).tells → KeepsWorld (D.means (disk_of volume)) volume (world_of (D.means (disk_of volume)).shows volume) }
     requires built { AllByRecursion (λ line. IsBuilt line.call) script.now.calls }
     requires few { length script.now.calls ≤ 65536 }
-    ensures ends { (source left : SourceMeaning) → (IsTrue source.tells → read_script source.left ≡ Ok (record { calls = script.now.calls; turns = script.now.turns })) → EndsPlay source left (C.means clock.old) (K.means out.old) (K.means out.new) (D.means (disk_of volume)) (D.means result.disk) result.status }
+    ensures ends { EndsOn (calls_in script.now.calls) (C.means clock.old) (world_of (D.means (disk_of volume)).shows volume) (D.means (disk_of volume)) (D.means result.disk) (K.means out.old) (K.means out.new) result.status }
     ensures begun { leaves_device result.status ≡ false }
     ensures later { IsLater (D.means (disk_of volume)) (D.means result.disk) }
     ensures out_tells { (K.means out.new).tells ≡ (K.means out.old).tells }
     ensures clock { C.means clock.new ≡ C.means clock.old }
 {
-    let Ok(history) = play(alloc, &mut volume, script, clock) else {
+    let Ok(played) = play_and_commit(alloc, &mut volume, script, clock) else {
         return Ended {
             status: Status::NoMemory,
             disk: volume.close(),
         };
     };
-    let lost = volume.is_broken();
-    let printed = print(alloc, &history, script, out);
+    let printed = print(alloc, &played.history, script, out);
     Ended {
-        status: status_of(lost, printed),
+        status: status_of(played.committed, printed),
         disk: volume.close(),
     }
 }
@@ -114,16 +101,9 @@ fn play_script<S: Source, K: Sink, D: Disk, C: Clock>(
         Ok(script) => script,
         Err(status) => return Ended { status, disk },
     };
-    match Volume::open(alloc, disk) {
+    match open(alloc, disk) {
         Ok(volume) => play_volume(alloc, &script, volume, out, clock),
-        Err(OpenFault::NotVolume(disk)) => Ended {
-            status: not_volume(alloc),
-            disk,
-        },
-        Err(OpenFault::NoMemory(disk)) => Ended {
-            status: Status::NoMemory,
-            disk,
-        },
+        Err(ended) => ended,
     }
 }
 
@@ -135,26 +115,33 @@ fn run_words<S: Source, K: Sink, D: Disk, C: Clock>(
     disk: D,
     clock: &mut C,
 ) -> Ended<D>
-    ensures usage { is_usage result.status ≡ not (is_play_word (list_map string_bytes words.now)) }
-    ensures untouched { OnTrue (is_usage result.status) (IsUntouched (S.means source.old) (S.means source.new) (K.means out.old) (K.means out.new)) }
-    ensures ends { OnFalse (is_usage result.status) (EndsPlay (S.means source.old) (S.means source.new) (C.means clock.old) (K.means out.old) (K.means out.new) (D.means disk) (D.means result.disk) result.status) }
+    ensures usage { is_usage result.status ≡ is_none (command_of (list_map string_bytes words.now)) }
+    ensures untouched { OnFalse (is_play (command_of (list_map string_bytes words.now))) (IsUntouched (S.means source.old) (S.means source.new) (K.means out.old) (K.means out.new)) }
+    ensures play { command_of (list_map string_bytes words.now) ≡ Some Play
+        → EndsPlay (S.means source.old) (S.means source.new) (C.means clock.old) (K.means out.old) (K.means out.new) (D.means disk) (D.means result.disk) result.status }
+    ensures mkfs { (blocks records : ℕ) → command_of (list_map string_bytes words.now) ≡ Some (Mkfs blocks records) → EndsMkfs blocks records (D.means disk) (D.means result.disk) result.status }
+    ensures short { (blocks records : ℕ) → command_of (list_map string_bytes words.now) ≡ Some (Mkfs blocks records) → (D.means disk).size < size_of blocks records → result.disk ≡ disk }
     ensures device { OnTrue (leaves_device result.status) (result.disk ≡ disk) }
     ensures later { IsLater (D.means disk) (D.means result.disk) }
     ensures source_tells { (S.means source.new).tells ≡ (S.means source.old).tells }
     ensures out_tells { (K.means out.new).tells ≡ (K.means out.old).tells }
     ensures clock { C.means clock.new ≡ C.means clock.old }
 {
-    if !is_play(words) {
-        return Ended {
+    match match_words(words) {
+        Some(Command::Play) => play_script(alloc, source, out, disk, clock),
+        Some(Command::Mkfs(blocks, records)) => mkfs(alloc, disk, blocks, records),
+        None => Ended {
             status: Status::Usage,
             disk,
-        };
+        },
     }
-    play_script(alloc, source, out, disk, clock)
 }
 
-/// Runs a command on a device: its words, its script from the source, its play, its output, its line on standard error.
-/// Today the one command is `play`. The data blocks of its world stand on the device, and the rest in memory.
+/// Runs a command on a device: its words, its script from the source, its play and the commit
+/// behind it, its output, its line on standard error.
+///
+/// `play` plays the script on the volume that stands on the device. `mkfs BLOCKS RECORDS` makes a
+/// volume there, and reads and prints nothing.
 pub fn top<S: Source, K: Sink, E: Sink, D: Disk, C: Clock>(
     alloc: Global,
     words: &[String],
@@ -164,13 +151,19 @@ pub fn top<S: Source, K: Sink, E: Sink, D: Disk, C: Clock>(
     disk: D,
     clock: &mut C,
 ) -> Ended<D>
-    // The words match no command exactly where the status says so, and then nothing was read or printed.
-    ensures usage { is_usage result.status ≡ not (is_play_word (list_map string_bytes words.now)) }
-    ensures untouched { OnTrue (is_usage result.status) (IsUntouched (S.means source.old) (S.means source.new) (K.means out.old) (K.means out.new)) }
+    // The words match no command exactly where the status says so. Only `play` reads or prints.
+    ensures usage { is_usage result.status ≡ is_none (command_of (list_map string_bytes words.now)) }
+    ensures untouched { OnFalse (is_play (command_of (list_map string_bytes words.now))) (IsUntouched (S.means source.old) (S.means source.new) (K.means out.old) (K.means out.new)) }
 
-    // What is printed is the transcript of one legal history that holds each actor's calls once and in its order; each
-    // fault in it, and each other ending, has its cause.
-    ensures ends { OnFalse (is_usage result.status) (EndsPlay (S.means source.old) (S.means source.new) (C.means clock.old) (K.means out.old) (K.means out.new) (D.means disk) (D.means result.disk) result.status) }
+    // What a play prints is the transcript of one legal history that holds each actor's calls once and in its order. Each
+    // image that a crash may leave recovers a prefix of it, at the end one that holds every acknowledged sync, and after
+    // the status Done the whole. Each fault in it, and each other ending, has its cause.
+    ensures play { command_of (list_map string_bytes words.now) ≡ Some Play
+        → EndsPlay (S.means source.old) (S.means source.new) (C.means clock.old) (K.means out.old) (K.means out.new) (D.means disk) (D.means result.disk) result.status }
+
+    // After mkfs each image has the empty world. A device that is too short is left as it is.
+    ensures mkfs { (blocks records : ℕ) → command_of (list_map string_bytes words.now) ≡ Some (Mkfs blocks records) → EndsMkfs blocks records (D.means disk) (D.means result.disk) result.status }
+    ensures short { (blocks records : ℕ) → command_of (list_map string_bytes words.now) ≡ Some (Mkfs blocks records) → (D.means disk).size < size_of blocks records → result.disk ≡ disk }
 
     // Before the device is opened it isn't called; else its counts of faults don't fall.
     ensures device { OnTrue (leaves_device result.status) (result.disk ≡ disk) }

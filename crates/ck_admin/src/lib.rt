@@ -2,6 +2,8 @@
 #![tactic(auto)]
 
 mod command;
+mod mkfs;
+mod opening;
 mod playing;
 mod print;
 mod read;

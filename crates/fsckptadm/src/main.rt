@@ -2,20 +2,23 @@
 #![tactic(auto)]
 
 use ck_admin::top;
-use ck_disk::MemDisk;
-use ck_io::{FixedClock, StdSink, StdSource, write_all};
+use ck_disk::{Disk, FileDisk, MemDisk};
+use ck_io::{Clock, FixedClock, StdSink, StdSource, SystemClock, write_all};
+use ck_log::device_blocks;
 use ck_report::Status;
+use ck_words::{Command, match_words};
 use std::process::ExitCode;
 use std::{env, io};
 
 const HELP: &[u8] = b"usage: fsckptadm COMMAND IMAGE
 
-play    plays the script on standard input, and prints its transcript
+play                  plays the script on standard input, and prints its transcript
+mkfs BLOCKS RECORDS   makes a volume with so many data blocks and records
 
-IMAGE is -, a blank device in memory.
+IMAGE is a file, which mkfs makes where there is none, or -, a new volume in memory.
 ";
 
-const VERSION: &[u8] = b"fsckptadm 0.1\n";
+const VERSION: &[u8] = b"fsckptadm 0.2\n";
 
 const IMAGE_FAULT: &[u8] = b"can't open the image\n";
 
@@ -52,55 +55,107 @@ fn is_only(words: &[String], text: &str) -> bool {
     }
 }
 
-/// Runs a command on a device in memory, at the moment 100.
-fn run_in_memory(rt: &HostRuntime, words: &[String], blocks: u32) -> u8 {
-    let alloc = rt.alloc();
-    let Ok(disk) = MemDisk::new(alloc, blocks, Vec::new(alloc)) else {
-        return 8;
-    };
+/// Runs a command on a device, and gives its exit status and the device back.
+fn run_on<D: Disk, C: Clock>(
+    rt: &HostRuntime,
+    words: &[String],
+    disk: D,
+    clock: &mut C,
+) -> (u8, D) {
     let errors = rt.stderr();
     let mut source = StdSource::new(rt.stdin());
     let mut out = StdSink::new(io::writer(rt));
     let mut err = StdSink::new(io::writer(&errors));
-    let mut clock = FixedClock { now: 100 };
     let ended = top(
-        alloc,
+        rt.alloc(),
         words,
         &mut source,
         &mut out,
         &mut err,
         disk,
-        &mut clock,
+        clock,
     );
-    exit_status(&ended.status)
+    (exit_status(&ended.status), ended.disk)
+}
+
+/// The words of the command that makes the volume in memory.
+fn blank_words(rt: &HostRuntime) -> io::Result<Vec<String>> {
+    let mut words = Vec::new(rt.alloc());
+    for word in ["mkfs", "64", "256"] {
+        words.push(word.to_string(rt.alloc())?)?;
+    }
+    Ok(words)
+}
+
+/// Runs a command on a new volume in memory, at the moment 100.
+fn run_in_memory(rt: &HostRuntime, words: &[String]) -> u8 {
+    let alloc = rt.alloc();
+    let (Ok(disk), Ok(blank)) = (
+        MemDisk::new(alloc, BLANK_BLOCKS, Vec::new(alloc)),
+        blank_words(rt),
+    ) else {
+        return 8;
+    };
+    let mut clock = FixedClock { now: 100 };
+    let (status, disk) = run_on(rt, &blank, disk, &mut clock);
+    if status != 0 {
+        return status;
+    }
+    run_on(rt, words, disk, &mut clock).0
+}
+
+/// Runs a command on an image, or says that it couldn't be opened.
+fn run_on_image(rt: &HostRuntime, words: &[String], opened: Option<FileDisk>) -> u8 {
+    match opened {
+        Some(disk) => run_on(rt, words, disk, &mut SystemClock::new(rt)).0,
+        None => {
+            let errors = rt.stderr();
+            let _ = write_all(&mut StdSink::new(io::writer(&errors)), IMAGE_FAULT);
+            9
+        }
+    }
+}
+
+/// The image that a command works on. `mkfs` makes it where there is none.
+fn open_image(rt: &HostRuntime, command: &Command, path: &str) -> Option<FileDisk> {
+    if let Command::Mkfs(blocks, records) = command {
+        let needs = device_blocks(*blocks, *records);
+        if let Ok(disk) = FileDisk::create(rt, path, needs) {
+            return Some(disk);
+        }
+    }
+    FileDisk::open_image(rt, path).ok()
+}
+
+/// Words that match no command are refused before the image is looked at.
+fn refuse(rt: &HostRuntime, words: &[String]) -> u8 {
+    let alloc = rt.alloc();
+    match MemDisk::new(alloc, 0, Vec::new(alloc)) {
+        Ok(disk) => run_on(rt, words, disk, &mut FixedClock { now: 0 }).0,
+        Err(_) => 8,
+    }
+}
+
+/// The last word is the image.
+fn run(rt: &HostRuntime, mut words: Vec<String>) -> u8 {
+    let image = words.pop();
+    match (match_words(&words), image) {
+        (Some(command), Some(image)) => {
+            if image.as_str() == "-" {
+                run_in_memory(rt, &words)
+            } else {
+                let opened = open_image(rt, &command, image.as_str());
+                run_on_image(rt, &words, opened)
+            }
+        }
+        _ => refuse(rt, &words),
+    }
 }
 
 fn print(rt: &HostRuntime, text: &[u8]) -> u8 {
     match write_all(&mut StdSink::new(io::writer(rt)), text) {
         Ok(()) => 0,
         Err(_) => 7,
-    }
-}
-
-fn refuse_image(rt: &HostRuntime) -> u8 {
-    let errors = rt.stderr();
-    let _ = write_all(&mut StdSink::new(io::writer(&errors)), IMAGE_FAULT);
-    9
-}
-
-/// The last word is the image. Words that match no command are refused before the image is looked at.
-fn run(rt: &HostRuntime, mut words: Vec<String>) -> u8 {
-    match words.pop() {
-        Some(image) => {
-            if image.as_str() == "-" {
-                run_in_memory(rt, &words, BLANK_BLOCKS)
-            } else if is_only(&words, "play") {
-                refuse_image(rt)
-            } else {
-                run_in_memory(rt, &words, 0)
-            }
-        }
-        None => run_in_memory(rt, &words, 0),
     }
 }
 

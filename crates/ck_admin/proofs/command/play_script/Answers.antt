@@ -1,10 +1,30 @@
-use Rattle.std.proofs.Common.{subst}
-use Rattle.ck_admin.specs.Top.{EndsPlay}
+use Rattle.std.proofs.Common.{◌≡◌, IsTrue, refl, sym, ap, subst}
+use Rattle.ck_disk.specs.Disk.{Meaning}
+use Rattle.ck_model.specs.Standing.{world_on}
+use Rattle.ck_model.specs.World.{World, unmounted}
+use Rattle.ck_script.specs.Reading.{Parsed}
+use Rattle.ck_volume.specs.Device.{store_on}
+use Rattle.ck_volume.specs.Volume.{disk_of, world_of, data_of, table_of}
+use Rattle.ck_admin.proofs.TopLemmas.{ends_opened}
 use Rattle.ck_admin.proofs.command.play_script.Goals as goal
+
+pub play_volume-requires-clause-kept : goal.play_volume-requires-clause-kept
+play_volume-requires-clause-kept g c =
+    let opened = c.in-Ok-open.ensures.opened in
+    λ told. opened.kept (subst IsTrue opened.any_moment.tells told)
 
 pub returns-in-Ok-open-clause-ends : goal.returns-in-Ok-open-clause-ends
 returns-in-Ok-open-clause-ends g c =
     let source = g.S.Source.means c.args.source.now in
     let left = g.S.Source.means c.read.new.source in
-    subst (λ disk. EndsPlay source left (g.C.Clock.means c.args.clock.now) (g.K.Sink.means c.args.out.now) (g.K.Sink.means c.play_volume.new.out) (g.D.Disk.means disk) (g.D.Disk.means c.play_volume.result.disk) c.play_volume.result.status)
-    c.in-Ok-open.ensures.opened.device (c.play_volume.ensures.ends source left c.in-Ok.ensures.script)
+    let clock = g.C.Clock.means c.args.clock.now in
+    let volume = c.in-Ok-open.volume in
+    let before : Meaning = g.D.Disk.means c.args.disk in
+    let mid : Meaning = g.D.Disk.means (disk_of volume) in
+    let after : Meaning = g.D.Disk.means c.play_volume.result.disk in
+    let opened = c.in-Ok-open.ensures.opened in
+    let read : Parsed = record { calls = c.in-Ok.script.calls; turns = c.in-Ok.script.turns } in
+    let w : World = world_of mid.shows volume in
+    let bare : w ≡ unmounted w = ap (λ mounts. world_on (store_on mid.shows (data_of volume)) mounts (table_of volume)) opened.begun.mounts_are in
+    ends_opened source left clock (g.K.Sink.means c.args.out.now) (g.K.Sink.means c.play_volume.new.out) before mid after (g.met.D.Disk.lawful c.args.disk) (g.met.D.Disk.lawful (disk_of volume)) read w c.play_volume.result.status
+    c.in-Ok.ensures.script bare opened.recovers opened.any_moment c.play_volume.ensures.ends

@@ -1,0 +1,23 @@
+use Rattle.ck_disk.specs.Disk.{Meaning}
+use Rattle.ck_script.specs.Numbered.{calls_in}
+use Rattle.ck_volume.specs.Volume.{disk_of, world_of}
+use Rattle.ck_admin.proofs.PlayedLemmas.{Committed, played}
+use Rattle.ck_admin.proofs.playing.play_and_commit.Goals as goal
+
+pub returns-clause-played : goal.returns-clause-played
+returns-clause-played g c =
+    let old : Meaning = g.D.Disk.means (disk_of c.args.volume.now) in
+    let before = c.play.new.volume in
+    let after = c.commit-committed.new.self in
+    let event = c.commit-committed.ensures in
+    let commit : Committed (g.D.Disk.means (disk_of before)) (g.D.Disk.means (disk_of after)) before after c.commit-committed.result = record {
+      runs = event.runs;
+      world = event.world;
+      refused = event.refused;
+      not_refused = event.not_refused;
+      cause = event.cause;
+      survives = event.survives;
+      exact = event.exact;
+    } in
+    played g.D.Disk.means g.met.D.Disk.lawful (calls_in c.args.script.now.calls) (g.C.Clock.means c.args.clock.now) (world_of old.shows c.args.volume.now) old c.in_ok-history.history.items before after c.commit-committed.result
+    c.in_ok-history.ensures.play c.in_ok-history.ensures.leaves c.in_ok-history.ensures.broken commit event.untouched
