@@ -1,6 +1,8 @@
 //! `fsckptadm COMMAND IMAGE`: a file system with storage checkpoints, on one device.
 #![tactic(auto)]
 
+ghost use Rattle.ck_words.specs.Words.{IsWithin};
+
 use ck_admin::top;
 use ck_disk::{Disk, FileDisk, MemDisk};
 use ck_io::{Clock, FixedClock, StdSink, StdSource, SystemClock, write_all};
@@ -117,9 +119,11 @@ fn run_on_image(rt: &HostRuntime, words: &[String], opened: Option<FileDisk>) ->
 }
 
 /// The image that a command works on. `mkfs` makes it where there is none.
-fn open_image(rt: &HostRuntime, command: &Command, path: &str) -> Option<FileDisk> {
+fn open_image(rt: &HostRuntime, command: Command, path: &str) -> Option<FileDisk>
+    requires { IsWithin command }
+{
     if let Command::Mkfs(blocks, records) = command {
-        let needs = device_blocks(*blocks, *records);
+        let needs = device_blocks(blocks, records);
         if let Ok(disk) = FileDisk::create(rt, path, needs) {
             return Some(disk);
         }
@@ -138,18 +142,17 @@ fn refuse(rt: &HostRuntime, words: &[String]) -> u8 {
 
 /// The last word is the image.
 fn run(rt: &HostRuntime, mut words: Vec<String>) -> u8 {
-    let image = words.pop();
-    match (match_words(&words), image) {
-        (Some(command), Some(image)) => {
-            if image.as_str() == "-" {
-                run_in_memory(rt, &words)
-            } else {
-                let opened = open_image(rt, &command, image.as_str());
-                run_on_image(rt, &words, opened)
-            }
-        }
-        _ => refuse(rt, &words),
+    let Some(image) = words.pop() else {
+        return refuse(rt, &words);
+    };
+    let Some(command) = match_words(&words) else {
+        return refuse(rt, &words);
+    };
+    if image.as_str() == "-" {
+        return run_in_memory(rt, &words);
     }
+    let opened = open_image(rt, command, image.as_str());
+    run_on_image(rt, &words, opened)
 }
 
 fn print(rt: &HostRuntime, text: &[u8]) -> u8 {
