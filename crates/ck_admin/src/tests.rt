@@ -560,9 +560,29 @@ const SYNCED: &[u8] = b"1 make /a
 1 sync
 ";
 
-/// The sync that this call is was acknowledged.
-fn acknowledged(printed: &[u8], line: &[u8]) -> bool {
-    printed.windows(line.len()).any(|part| part == line)
+/// How its transcript begins where the first sync was acknowledged.
+const FIRST_SYNCED: &[u8] = b"1.1 100 0 make /a = Ok
+1.2 100 0 write /a 0 x:6f6e65 = Ok
+1.3 100 0 sync = Ok
+";
+
+/// And where both were.
+const BOTH_SYNCED: &[u8] = b"1.1 100 0 make /a = Ok
+1.2 100 0 write /a 0 x:6f6e65 = Ok
+1.3 100 0 sync = Ok
+1.4 100 0 write /a 0 x:74776f = Ok
+1.5 100 0 sync = Ok
+";
+
+/// How many calls a crash has to keep of a run that printed this.
+fn synced(printed: &[u8]) -> u32 {
+    if printed == BOTH_SYNCED {
+        5
+    } else if printed.starts_with(FIRST_SYNCED) {
+        3
+    } else {
+        0
+    }
 }
 
 /// How many of the five calls a device has, by what a play of this says: 0 to 2 are without the first content, 3 is as 2
@@ -591,24 +611,15 @@ fn survives_a_stop_at_each_call(rt: HostRuntime) -> Result<(), Fail> {
     for passes in 0..64 {
         let disk = FuseDisk::new(copy_of(rt.alloc(), &made, &[])?, passes);
         let ended = play_on(rt.alloc(), SYNCED, disk)?;
-        let printed = ended.printed.bytes();
-        let first = acknowledged(printed, b"1.3 100 0 sync = Ok\n");
-        let second = acknowledged(printed, b"1.5 100 0 sync = Ok\n");
+        let least = synced(ended.printed.bytes());
         whole = ended.is_done();
         assert!(rt; whole || ended.is_device_fault(), "{passes}");
         let world = world_of(
             rt.alloc(),
             copy_of(rt.alloc(), &ended.disk.into_inner(), &[])?,
         )?;
-        let least = if second {
-            5
-        } else if first {
-            3
-        } else {
-            0
-        };
         assert!(rt; least <= world && world <= 5, "{passes}: {world}");
-        assert!(rt; second || !whole, "{passes}");
+        assert!(rt; least == 5 || !whole, "{passes}");
     }
     assert!(rt; whole);
     Ok(())
@@ -625,19 +636,10 @@ fn survives_torn_blocks(rt: HostRuntime) -> Result<(), Fail> {
         for at in [1, 3, 12] {
             let disk = FuseDisk::new(copy_of(rt.alloc(), &made, &[])?, passes);
             let ended = play_on(rt.alloc(), SYNCED, disk)?;
-            let printed = ended.printed.bytes();
-            let first = acknowledged(printed, b"1.3 100 0 sync = Ok\n");
-            let second = acknowledged(printed, b"1.5 100 0 sync = Ok\n");
+            let least = synced(ended.printed.bytes());
             let mut torn = Vec::new(rt.alloc());
             torn.push(Torn { at, bytes: NOISE })?;
             let world = world_of(rt.alloc(), ended.disk.into_inner().crash(torn))?;
-            let least = if second {
-                5
-            } else if first {
-                3
-            } else {
-                0
-            };
             assert!(rt; least <= world && world <= 5, "{passes} {at}: {world}");
         }
     }
