@@ -1,1 +1,13 @@
 pub mod Asking
+pub mod KeyOrder
+pub mod FollowingLemmas
+pub mod KeysLeft
+pub mod StandingLemmas
+pub mod ListingLemmas
+pub mod ChildrenLemmas
+pub mod RemovingLemmas
+pub mod PathLaws
+pub mod DeletionLemmas
+pub mod ResizingLemmas
+pub mod WritingLemmas
+pub mod PlanLemmas

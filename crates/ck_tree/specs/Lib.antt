@@ -1,1 +1,8 @@
 pub mod Standing
+pub mod Following
+pub mod Listing
+pub mod Faults
+pub mod Removing
+pub mod Resizing
+pub mod Writing
+pub mod Plan

@@ -4,9 +4,8 @@ ghost use Rattle.ck_model.specs.History.{is_fault};
 ghost use Rattle.ck_model.specs.Walk.{node_at, file_at, directory_at, name_at, new_name_at};
 ghost use Rattle.ck_tree.specs.Standing.{StandsFor};
 
-use crate::nodes::{is_directory_at, stands_at};
-use crate::walking::walk_names;
-use ck_model::{Key, Meta, NameBytes, Reply, WalkFault};
+use crate::finding::{find_directory, find_file, find_last, find_new_name, find_node};
+use ck_model::{Key, Meta, NameBytes, Reply};
 
 /// The node that a path leads to, or the reply that refuses it.
 pub fn node_at<M: Meta>(meta: &M, fs: u32, names: &[NameBytes]) -> Result<u32, Reply>
@@ -14,11 +13,7 @@ pub fn node_at<M: Meta>(meta: &M, fs: u32, names: &[NameBytes]) -> Result<u32, R
         → result ≡ node_at cells names.now }
     ensures ordinary { IfErr result (λ reply. is_fault reply ≡ false) }
 {
-    match walk_names(meta, fs, names) {
-        Ok(node) => Ok(node),
-        Err(WalkFault::NotFound) => Err(Reply::NotFound),
-        Err(WalkFault::NotDir) => Err(Reply::NotDir),
-    }
+    Ok(find_node(meta, fs, names)?)
 }
 
 /// The file that a path leads to.
@@ -27,12 +22,7 @@ pub fn file_at<M: Meta>(meta: &M, fs: u32, names: &[NameBytes]) -> Result<u32, R
         → result ≡ file_at cells names.now }
     ensures ordinary { IfErr result (λ reply. is_fault reply ≡ false) }
 {
-    let node = node_at(meta, fs, names)?;
-    if is_directory_at(meta, fs, node) {
-        Err(Reply::IsDir)
-    } else {
-        Ok(node)
-    }
+    Ok(find_file(meta, fs, names)?)
 }
 
 /// The directory that a path leads to.
@@ -41,12 +31,7 @@ pub fn directory_at<M: Meta>(meta: &M, fs: u32, names: &[NameBytes]) -> Result<u
         → result ≡ directory_at cells names.now }
     ensures ordinary { IfErr result (λ reply. is_fault reply ≡ false) }
 {
-    let node = node_at(meta, fs, names)?;
-    if is_directory_at(meta, fs, node) {
-        Ok(node)
-    } else {
-        Err(Reply::NotDir)
-    }
+    Ok(find_directory(meta, fs, names)?)
 }
 
 /// The key of the last name. The root has none, and is answered with `of_slash`.
@@ -63,9 +48,7 @@ pub fn name_at<M: Meta>(
     if names.is_empty() {
         return Err(of_slash);
     }
-    let last = names.len() - 1;
-    let directory = directory_at(meta, fs, &names[..last])?;
-    Ok(Key::Name(directory, names[last]))
+    Ok(find_last(meta, fs, names)?)
 }
 
 /// The key of a last name that doesn't stand yet.
@@ -74,10 +57,5 @@ pub fn new_name_at<M: Meta>(meta: &M, fs: u32, names: &[NameBytes]) -> Result<Ke
         → result ≡ new_name_at cells names.now }
     ensures ordinary { IfErr result (λ reply. is_fault reply ≡ false) }
 {
-    let key = name_at(meta, fs, Reply::Exists, names)?;
-    if stands_at(meta, fs, &key) {
-        Err(Reply::Exists)
-    } else {
-        Ok(key)
-    }
+    Ok(find_new_name(meta, fs, names)?)
 }
