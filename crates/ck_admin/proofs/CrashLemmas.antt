@@ -17,7 +17,7 @@ use Rattle.ck_volume.specs.Committed.{OpensToEither}
 use Rattle.ck_volume.specs.Recovering.{Recovers}
 use Rattle.ck_volume.specs.declared.volume.Volume.{Volume}
 use Rattle.ck_volume.specs.Volume.{disk_of, broken_of, length_of, world_of, KeepsWorld, Runs, Survives}
-use Rattle.ck_volume.proofs.CommittedLemmas.{leaves_now}
+use Rattle.ck_volume.proofs.CommittedLemmas.{leaves_more, leaves_now}
 use Rattle.ck_volume.proofs.KeptLaws.{kept-recovers}
 use Rattle.ck_admin.specs.Crash.{is_sync, is_synced, synced_from, synced_count, RecoversCut, CutFrom, KeepsCut}
 
@@ -231,17 +231,6 @@ pub record Survived {D : Type 0} (mid new : Meaning) (before after : Volume D) (
   pub broken : broken_of after ≡ option_or (broken_of before) (if is_write_fault entry.reply then Some (length_of before) else None)
   pub refused : MatchOption (broken_of before) (is_broken entry.reply ≡ false) (λ by. entry.reply ≡ Broken by)
 
-pub leaves_among : (old now : Meaning) (P Q : Image → Type 0) → ((image : Image) → P image → Q image) → LeavesOnly old now P → LeavesOnly old now Q
-leaves_among old now P Q among leaves = record {
-  size = leaves.size;
-  tells = leaves.tells;
-  reads = leaves.reads;
-  writes = leaves.writes;
-  later = leaves.later;
-  each = λ image left. among image (leaves.each image left);
-  before = λ t image early left. ⊎_elim (λ (was : old.left_since t image). inl was) (λ (p : P image). inr (among image p)) (leaves.before t image early left);
-}
-
 -- two runs one after the other
 pub leaves_both : (old mid new : Meaning) (P : Image → Type 0) → LeavesOnly old mid P → LeavesOnly mid new P → LeavesOnly old new P
 leaves_both old mid new P first second = record {
@@ -307,7 +296,7 @@ module _ {D : Type 0} (means : D → Meaning) (law : (d : D) → Lawful (means d
       let same = sym (still number is) in
       let other = refused_other calls entry number (refused_reply number is) in
       record {
-        any_moment = leaves_among old new (CutFrom old calls w history 0) (CutFrom old calls w whole 0)
+        any_moment = leaves_more old new (CutFrom old calls w history 0) (CutFrom old calls w whole 0)
             (λ image cut told. cut_more calls w history entry 0 image (cut told))
             (subst (λ d. LeavesOnly old (means d) (CutFrom old calls w history 0)) same safe.any_moment);
         at_the_end = λ image left told.
@@ -329,7 +318,7 @@ module _ {D : Type 0} (means : D → Meaning) (law : (d : D) → Lawful (means d
         ⊎_elim
         (λ (told : IsTrue old.tells).
         let kept = safe.kept whole_before told in
-        leaves_among mid new (OpensToEither kept.committed (unmounted present)) (CutFrom old calls w whole 0)
+        leaves_more mid new (OpensToEither kept.committed (unmounted present)) (CutFrom old calls w whole 0)
         (λ image e told. cut_least calls w whole (synced_count calls history) 0 image (omega arith) (cut_of told kept image e))
         (either told kept))
         (λ (untold : IsTrue old.tells → ⊥). leaves_untold mid new (IsTrue old.tells) (RecoversCut calls w whole 0) untold event.runs)
@@ -370,7 +359,7 @@ module _ {D : Type 0} (means : D → Meaning) (law : (d : D) → Lawful (means d
     safe_whole : IsSafeSoFar calls w old new whole after
     safe_whole = record {
       any_moment = leaves_both old mid new (CutFrom old calls w whole 0)
-          (leaves_among old mid (CutFrom old calls w history 0) (CutFrom old calls w whole 0) (λ image cut told. cut_more calls w history entry 0 image (cut told)) safe.any_moment)
+          (leaves_more old mid (CutFrom old calls w history 0) (CutFrom old calls w whole 0) (λ image cut told. cut_more calls w history entry 0 image (cut told)) safe.any_moment)
           running;
       at_the_end = λ image left. ⊎_elim (λ (synced : is_synced calls entry ≡ true). synced_end synced image left) (λ (other : is_synced calls entry ≡ false). unsynced_end other image left) (synced_or_not (is_synced calls entry));
       kept = ⊎_elim (λ (synced : is_synced calls entry ≡ true). synced_kept synced) (λ (other : is_synced calls entry ≡ false). unsynced_kept other) (synced_or_not (is_synced calls entry));

@@ -15,10 +15,10 @@ use Rattle.ck_volume.specs.declared.closing.CommitAnswer.{CommitAnswer}
 use Rattle.ck_volume.specs.declared.closing.CommitAnswer.TheVariants as answer
 use Rattle.ck_volume.specs.declared.volume.Volume.{Volume}
 use Rattle.ck_volume.specs.Volume.{disk_of, broken_of, world_of, KeepsWorld, Runs, Survives}
-use Rattle.ck_volume.proofs.CommittedLemmas.{leaves_now}
+use Rattle.ck_volume.proofs.CommittedLemmas.{leaves_more, leaves_now}
 use Rattle.ck_admin.specs.Crash.{synced_count, RecoversCut, CutFrom, KeepsCut, LeavesVolume, found_broken, IsPlayed}
 use Rattle.ck_admin.specs.Play.{HasCauses, IsPlay, lost_a_write}
-use Rattle.ck_admin.proofs.CrashLemmas.{cut_least, cut_either, leaves_among, leaves_both, leaves_untold, told_or_not, broken_or_not, no_one}
+use Rattle.ck_admin.proofs.CrashLemmas.{cut_least, cut_either, leaves_both, leaves_untold, told_or_not, broken_or_not, no_one}
 
 -- what a commit says
 pub record Committed {D : Type 0} (mid new : Meaning) (before after : Volume D) (committed : CommitAnswer) : Type 0 where
@@ -87,7 +87,7 @@ module _ {D : Type 0} (means : D → Meaning) (law : (d : D) → Lawful (means d
         ⊎_elim
         (λ (told : IsTrue old.tells).
         let kept = leaves.kept whole told in
-        leaves_among mid new (OpensToEither kept.committed (unmounted (world_of mid.shows before))) (CutFrom old calls w history 0)
+        leaves_more mid new (OpensToEither kept.committed (unmounted (world_of mid.shows before))) (CutFrom old calls w history 0)
         (λ image e told. cut_least calls w history (synced_count calls history) 0 image (omega arith) (cut_of told kept image e))
         (either told kept))
         (λ (untold : IsTrue old.tells → ⊥). leaves_untold mid new (IsTrue old.tells) (RecoversCut calls w history 0) untold commit.runs)

@@ -1,5 +1,5 @@
 -- The data blocks in use are as many as the table names.
-use Rattle.std.proofs.Common.{◌≡◌, ◌≢◌, ℕ, ◌+◌, ◌<◌, ◌≤◌, Bool, true, false, cond, T, ◌&&◌, ◌||◌, is_some, IsSome, if◌then◌else◌, List, [], ◌∷◌, ◌++◌, length, Option, Some, None, nat_eq, refl, sym, ap, subst, ◌∙◌, ◌⊎◌, inl, inr, arith}
+use Rattle.std.proofs.Common.{◌≡◌, ℕ, ◌+◌, Bool, true, false, cond, T, ◌||◌, is_some, List, [], ◌∷◌, length, Some, nat_eq, refl, sym, ap, subst, ◌∙◌, ◌⊎◌, inl, inr, arith}
 use Rattle.std.specs.Bool.{⊤}
 use Rattle.std.specs.Ordering.{nat_cmp, eq_by_cmp, is_eq}
 use Rattle.std.specs.Cmp.{unsigned_tied}
@@ -18,7 +18,7 @@ use Rattle.ck_model.specs.declared.held.Held.TheVariants.{Absent, Plain, Extent,
 use Rattle.ck_model.specs.Key.{entry_cmp, entry_cmp_total, entry_cmp_exact}
 use Rattle.ck_model.specs.Table.{Table, column}
 use Rattle.ck_model.specs.Rules.{IsSound}
-use Rattle.ck_model.specs.Standing.{blocks_in, blocks_of, extents_of, extent_count}
+use Rattle.ck_model.specs.Standing.{blocks_of, extents_of, extent_count}
 use Rattle.ck_model.proofs.Rows.{head_of}
 use Rattle.ck_model.proofs.Filesets.{not_below}
 use Rattle.ck_alloc.specs.Blocks.{Allocation}

@@ -1,21 +1,18 @@
 -- What a table is after a change: its records are within their limits, and another change may be made as before.
-use Rattle.std.proofs.Common.{◌≡◌, ◌≢◌, ◌⊎◌, ℕ, ◌+◌, ◌<◌, ◌^◌, Bool, true, false, inl, inr, Option, Some, None, is_some, IsSome, IfSome, List, [], ◌∷◌, refl, sym, ap, subst, ◌∙◌, arith}
+use Rattle.std.proofs.Common.{◌≡◌, ◌≢◌, ℕ, ◌+◌, ◌<◌, true, false, inl, inr, Option, Some, None, is_some, IsSome, IfSome, List, [], ◌∷◌, refl, sym, ap, subst, ◌∙◌, arith}
 use Rattle.std.specs.Ordering.{eq_by_cmp, is_eq}
 use Rattle.std.specs.FinMap as map
 use Rattle.std.proofs.lemmas.Cmp.{tied_itself}
 use mathlib.Core.Bool.{false≢true}
 use Rattle.ck_model.specs.declared.key.Key.{Key}
 use Rattle.ck_model.specs.declared.held.Held.{Held}
-use Rattle.ck_model.specs.declared.held.Held.TheVariants.{Absent}
 use Rattle.ck_model.specs.declared.change.Change.{Change}
 use Rattle.ck_model.specs.declared.change.Change.TheVariants.{Put, Write, Del}
-use Rattle.ck_model.specs.declared.checkpoint.Fileset.{Fileset}
 use Rattle.ck_model.specs.Key.{key_cmp, key_cmp_total}
 use Rattle.ck_model.specs.Held.{IsWord, IsEntry, IsKey}
 use Rattle.ck_model.specs.Table.{Table, IsTable, column, with_entry, record_count}
 use Rattle.ck_model.specs.Chain.{newest_live_of}
-use Rattle.ck_model.specs.Rules.{IsOrderly, IsSound, KeyBelow}
-use Rattle.ck_chain.specs.Kept.{pushed}
+use Rattle.ck_model.specs.Rules.{IsOrderly, IsSound}
 use Rattle.ck_chain.specs.Naming.{block_of, IsNamed}
 use Rattle.ck_chain.specs.Changes.{key_of, is_deletion, value_after}
 use Rattle.ck_chain.proofs.Columns.{same_or_other}

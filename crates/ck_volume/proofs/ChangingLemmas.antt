@@ -1,8 +1,7 @@
 -- A call that changes files, in the world of a volume's table: it fits exactly where the table has room for its changes.
-use Rattle.std.proofs.Common.{◌≡◌, ℕ, ◌+◌, ◌-◌, ◌<◌, ◌≤◌, Bool, true, false, Option, Some, None, Ok, IfSome, IsSome, List, [], ◌∷◌, if◌then◌else◌, refl, sym, ap, subst, ◌∙◌, ◌⊎◌, inl, inr, ⊎_elim, arith}
+use Rattle.std.proofs.Common.{◌≡◌, ℕ, ◌+◌, ◌-◌, ◌<◌, ◌≤◌, true, false, Option, Some, None, Ok, IfSome, List, if◌then◌else◌, refl, sym, ap, subst, ◌∙◌, inl, inr, ⊎_elim, arith}
 use Rattle.std.specs.FinMap as map
 use Rattle.std.proofs.lemmas.Bool.{cases_lt}
-use mathlib.Core.Bool.{false≢true}
 use Rattle.ck_model.specs.declared.key.Key.{Key}
 use Rattle.ck_model.specs.declared.key.Key.TheVariants.{Name, Node, Block}
 use Rattle.ck_model.specs.declared.held.Held.{Held}
@@ -13,18 +12,16 @@ use Rattle.ck_model.specs.declared.change.Change.{Change}
 use Rattle.ck_model.specs.declared.checkpoint.Counters.{Counters}
 use Rattle.ck_model.specs.declared.reply.Reply.{Reply}
 use Rattle.ck_model.specs.declared.reply.Reply.TheVariants.{Done}
-use Rattle.ck_model.specs.Held.{IsCounters}
 use Rattle.ck_model.specs.World.{World, Mounts}
 use Rattle.ck_model.specs.Space.{records_in, new_block_count}
 use Rattle.ck_model.specs.Step.{changing, with_room}
-use Rattle.ck_model.specs.Table.{Table, IsTable, IsSized, column, record_count}
-use Rattle.ck_model.specs.Rules.{IsOrderly, IsSound, KeyBelow, SmallBelow, HeldBelow, stamp_in, block_in}
-use Rattle.ck_model.specs.Values.{Store, cells_on}
-use Rattle.ck_model.specs.Standing.{values_of, checkpoints_on, world_on}
+use Rattle.ck_model.specs.Table.{Table, IsTable, record_count}
+use Rattle.ck_model.specs.Rules.{IsSound, KeyBelow, SmallBelow, HeldBelow, stamp_in, block_in}
+use Rattle.ck_model.specs.Values.{Store}
+use Rattle.ck_model.specs.Standing.{world_on}
 use Rattle.ck_model.proofs.Counted.{records_are}
-use Rattle.ck_chain.specs.Changes.{key_of}
 use Rattle.ck_push.specs.Growth.{gains, losses, write_count}
-use Rattle.ck_volume.specs.Plain.{IsPlain, IsOurs}
+use Rattle.ck_volume.specs.Plain.{IsOurs}
 use Rattle.ck_volume.specs.Room.{Grows, has_room, lack_of_room, answered_with}
 use Rattle.ck_volume.specs.Changing.{raised, IsRaised, changed_all, with_changes, MayChangeAll}
 use Rattle.ck_volume.proofs.Worlds.{SameNamed, world_same}

@@ -1,8 +1,7 @@
 -- The checkpoints of a table that was changed.
-use Rattle.std.proofs.Common.{◌≡◌, ◌≢◌, ℕ, ◌<◌, ◌≤◌, Bool, true, false, not, cond, T, ◌&&◌, ◌||◌, IsSome, is_some, if◌then◌else◌, List, [], ◌∷◌, map as list_map, filter, Option, Some, None, nat_eq, nat_le, nat_lt, refl, sym, ap, subst, ◌∙◌, arith}
-use Rattle.std.specs.Bool.{⊤}
+use Rattle.std.proofs.Common.{◌≡◌, ℕ, ◌≤◌, Bool, true, false, not, cond, ◌&&◌, ◌||◌, IsSome, is_some, if◌then◌else◌, List, [], ◌∷◌, map as list_map, filter, Some, nat_eq, nat_le, nat_lt, refl, sym, ap, ◌∙◌, arith}
 use Rattle.std.specs.Ordering.{nat_cmp, eq_by_cmp}
-use Rattle.std.specs.Option.{option_or, option_map, option_map_or}
+use Rattle.std.specs.Option.{option_map, option_map_or}
 use Rattle.std.specs.List.{list_any, AllByRecursion}
 use Rattle.std.specs.FinMap.{nat_cmp-IsAntisymmetric, entries_sorted, find}
 use Rattle.std.specs.FinMap as map
@@ -10,14 +9,12 @@ use Rattle.std.proofs.lemmas.Bool.Decides.{nat_tests}
 use Rattle.std.proofs.lemmas.Cmp.{nat_cmp_total}
 use mathlib.Core.Bool.{false≢true}
 use Rattle.ck_model.specs.declared.key.Key.{Key}
-use Rattle.ck_model.specs.declared.cell.Cell.{Cell}
-use Rattle.ck_model.specs.declared.held.Held.{Held}
 use Rattle.ck_model.specs.declared.checkpoint.Fileset.{Fileset}
-use Rattle.ck_model.specs.World.{World, Checkpoint, Mounts, keeps_files, shown_by}
-use Rattle.ck_model.specs.Table.{Table, IsTable, column, newer}
+use Rattle.ck_model.specs.World.{keeps_files, shown_by}
+use Rattle.ck_model.specs.Table.{Table, IsTable, column}
 use Rattle.ck_model.specs.Chain.{present, value_of, value_at, is_live, is_live_data, keeps_data, as_mark, seen}
-use Rattle.ck_model.specs.Values.{Store, Values, cell_on, cells_on}
-use Rattle.ck_model.specs.Standing.{values_of, checkpoint_on, live_filesets, checkpoints_on, world_on}
+use Rattle.ck_model.specs.Values.{Store, cell_on, cells_on}
+use Rattle.ck_model.specs.Standing.{values_of, checkpoint_on, checkpoints_on}
 use Rattle.ck_model.proofs.ValuesOf.{get-values_of}
 use Rattle.ck_model.proofs.Filesets.{all_found}
 use Rattle.ck_volume.specs.Plain.{IsPlain, IsPlainFileset}

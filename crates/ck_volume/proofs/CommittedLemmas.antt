@@ -1,17 +1,17 @@
 -- What calls keep of the table that was committed last.
-use Rattle.std.proofs.Common.{◌≡◌, ◌⊎◌, inl, inr, ⊎_elim, ℕ, ◌+◌, ◌*◌, ◌≤◌, Bool, true, false, ◌||◌, IsTrue, get_or, [], refl, sym, ap, subst, ◌∙◌, arith}
+use Rattle.std.proofs.Common.{◌≡◌, inl, inr, ⊎_elim, ℕ, ◌*◌, Bool, true, false, ◌||◌, IsTrue, refl, sym, ap, subst, ◌∙◌, arith}
 use Rattle.std.specs.FinMap as map
 use Rattle.std.specs.FinSet as set
 use Rattle.ck_disk.specs.Disk.{Image, Meaning, Lawful, Step, LeavesOnly, IsSynced}
 use Rattle.ck_log.specs.Layout.{Layout, table_blocks, base_of}
 use Rattle.ck_log.specs.Images.{table_on, Settled, CommitLeaves}
 use Rattle.ck_alloc.specs.Blocks.{Allocation, IsPartition}
-use Rattle.ck_model.specs.World.{World, Mounts}
+use Rattle.ck_model.specs.World.{World}
 use Rattle.ck_model.specs.Table.{Table}
 use Rattle.ck_model.specs.Standing.{world_on}
 use Rattle.ck_area.specs.Area.{AreSlots, written_as}
 use Rattle.ck_volume.specs.Allocating.{is_named, is_busy, IsAllocated, KeepsBusy}
-use Rattle.ck_volume.specs.Committed.{IsCommitted, Keeps, OpensToEither}
+use Rattle.ck_volume.specs.Committed.{Keeps, OpensToEither}
 use Rattle.ck_volume.specs.Device.{store_on}
 use Rattle.ck_volume.specs.Plain.{IsOurs}
 use Rattle.ck_volume.specs.Reading.{OnlyReads}

@@ -1,18 +1,12 @@
 -- A volume that goes on after a call.
-use Rattle.std.proofs.Common.{◌≡◌, ◌⊎◌, inl, inr, ⊎_elim, ℕ, ◌+◌, ◌≤◌, IsTrue, refl, sym, ap, subst, ◌∙◌, arith}
-use Rattle.std.specs.FinMap as map
+use Rattle.std.proofs.Common.{◌⊎◌, inl, inr, ⊎_elim, IsTrue}
 use Rattle.ck_disk.specs.Disk.{Image, Meaning, Lawful, Step, LeavesOnly}
-use Rattle.ck_log.specs.Layout.{Layout, base_of, size_of}
-use Rattle.ck_log.specs.Images.{Settled}
-use Rattle.ck_log.proofs.Recovery.{settled-keeps}
+use Rattle.ck_log.specs.Layout.{Layout, base_of}
 use Rattle.ck_alloc.specs.Blocks.{Allocation}
-use Rattle.ck_model.specs.World.{World, Mounts, unmounted}
-use Rattle.ck_model.specs.Table.{Table}
-use Rattle.ck_model.specs.Standing.{world_on}
+use Rattle.ck_model.specs.World.{World}
 use Rattle.ck_volume.specs.Allocating.{KeepsBusy}
 use Rattle.ck_volume.specs.Committed.{Keeps, OpensToEither}
 use Rattle.ck_volume.specs.Reading.{OnlyReads}
-use Rattle.ck_volume.specs.Recovering.{Recovers}
 use Rattle.ck_volume.specs.Storing.{OnlyStores}
 use Rattle.ck_volume.proofs.CommittedLemmas.{keeps-recovers, keeps-busy, keeps-stores, keeps-reads, leaves_start, leaves_step}
 

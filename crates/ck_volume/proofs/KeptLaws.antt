@@ -2,6 +2,9 @@
 use Rattle.std.proofs.Common.{refl, sym, ap, subst, ◌∙◌}
 use Rattle.std.specs.FinMap as map
 use Rattle.ck_disk.specs.Disk.{Image, Meaning}
+use Rattle.ck_log.specs.Header.{Recovered, NotVolume as NoVolume, BadFormat as BadHeader, Opens as OpensAt}
+use Rattle.ck_log.specs.Images.{recovered_region, table_on}
+use Rattle.ck_area.proofs.OneArea.{slots_unique}
 use Rattle.ck_log.specs.Layout.{Layout, base_of}
 use Rattle.ck_alloc.specs.Blocks.{Allocation}
 use Rattle.ck_model.specs.World.{World}
@@ -10,7 +13,7 @@ use Rattle.ck_model.specs.Table.{Table}
 use Rattle.ck_volume.specs.Committed.{Keeps}
 use Rattle.ck_volume.specs.Device.{store_on}
 use Rattle.ck_volume.specs.Exact.{IsExact}
-use Rattle.ck_volume.specs.Recovering.{Recovers}
+use Rattle.ck_volume.specs.Recovering.{Recovery, Opens, Finds, FindsBy, recovery_of, Recovers}
 use Rattle.ck_volume.specs.declared.volume.Volume.{Volume}
 use Rattle.ck_volume.specs.Volume.{layout_of, blocks_of, KeepsWorld}
 use Rattle.ck_volume.proofs.Worlds.{world_same}
@@ -46,3 +49,20 @@ kept-exact m volume w keeps image left = keeps-exact (layout_of volume) (blocks_
 pub exact-recovers : (w : World) (image : Image) → IsExact w image → Recovers image w
 exact-recovers w image exact =
     subst (Recovers image) exact.world (holds-recovers exact.layout exact.table image image exact.holds (record { size = refl; at = λ k at. refl }))
+
+-- ---- an image recovers to one thing
+
+finds-one : (image : Image) (a b : Recovery) → Finds image a → Finds image b → a ≡ b
+finds-one image a b = by (recovered_region image)
+  where
+    by : (r : Recovered) → FindsBy r image a → FindsBy r image b → a ≡ b
+    by NoVolume is other = is ∙ sym other
+    by (BadHeader version) is other = is ∙ sym other
+    by (OpensAt layout) is other = is.2 ∙ ap (recovery_of layout image) (slots_unique (table_on layout image) is.0 other.0 is.1 other.1) ∙ sym other.2
+
+-- so its world is one
+pub recovers-one : (image : Image) (a b : World) → Recovers image a → Recovers image b → a ≡ b
+recovers-one image a b is other = one a b (finds-one image (Opens a) (Opens b) is other)
+  where
+    one : (a b : World) → Opens a ≡ Opens b → a ≡ b
+    one a b h = cc

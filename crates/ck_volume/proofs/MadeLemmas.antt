@@ -1,12 +1,10 @@
 -- A call's changes, one after the other: what is left may be made as before.
-use Rattle.std.proofs.Common.{◌≡◌, ◌≢◌, ℕ, ◌+◌, ◌-◌, ◌<◌, ◌≤◌, Bool, true, false, not, ◌&&◌, ◌||◌, List, [], ◌∷◌, ◌++◌, Option, Some, None, is_some, IfSome, IsSome, refl, sym, ap, subst, ◌∙◌, ◌⊎◌, inl, inr, arith, if◌then◌else◌}
+use Rattle.std.proofs.Common.{◌≡◌, ℕ, ◌+◌, ◌-◌, ◌<◌, ◌≤◌, Bool, true, false, not, ◌&&◌, ◌||◌, List, [], ◌∷◌, Some, IfSome, refl, sym, ap, subst, ◌∙◌, inl, inr, arith}
 use Rattle.std.specs.List.{list_any}
 use mathlib.Core.Bool.{false≢true}
-use Rattle.ck_model.specs.declared.held.Held.{Held}
 use Rattle.ck_model.specs.declared.change.Change.{Change}
-use Rattle.ck_model.specs.Table.{Table, IsTable, IsSized, column, record_count, spare_count}
+use Rattle.ck_model.specs.Table.{Table, IsSized, record_count, spare_count}
 use Rattle.ck_model.specs.Chain.{newest_live_of}
-use Rattle.ck_model.specs.Rules.{IsSound}
 use Rattle.ck_chain.specs.Naming.{block_of, IsNamed}
 use Rattle.ck_chain.specs.Changes.{deletions_first, is_deletion, key_of, value_after}
 use Rattle.ck_push.specs.Changed.{changed}
@@ -14,10 +12,10 @@ use Rattle.ck_push.specs.Growth.{gain, loss, gains, losses, growth, one_if, abse
 use Rattle.ck_push.proofs.RoomLaws.{deletion_grows}
 use Rattle.ck_alloc.specs.Blocks.{Allocation}
 use Rattle.ck_volume.specs.Plain.{IsOurs}
-use Rattle.ck_volume.specs.Allocating.{is_named, is_taken, AreUnnamed, IsAllocatedBut, KeepsBusy, blocks_held}
-use Rattle.ck_volume.specs.Changing.{changed_all, MayChange, AllApart, MayChangeAll, written_by}
-use Rattle.ck_volume.proofs.UseLemmas.{is-named, held_block, block_held, any_append, one_or, true_false}
-use Rattle.ck_volume.proofs.ChangedLaws.{lawful_after, sound_after, counted_after, may_all_after, gains_stay, losses_stay}
+use Rattle.ck_volume.specs.Allocating.{is_named, is_taken, AreUnnamed, IsAllocatedBut, blocks_held}
+use Rattle.ck_volume.specs.Changing.{MayChange, MayChangeAll, written_by}
+use Rattle.ck_volume.proofs.UseLemmas.{is-named, block_held, any_append, one_or, true_false}
+use Rattle.ck_volume.proofs.ChangedLaws.{counted_after, may_all_after, gains_stay, losses_stay}
 
 -- the changes that are left may be made, and there is room for them
 pub record MayMake (t : Table) (blocks : Allocation) (items : List Change) (stamp : ℕ) : Type 0 where

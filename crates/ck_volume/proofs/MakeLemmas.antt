@@ -1,5 +1,5 @@
 -- A new file: its changes may be made, and lead to the world with the file.
-use Rattle.std.proofs.Common.{◌≡◌, ◌≢◌, ℕ, ◌+◌, ◌-◌, ◌<◌, ◌≤◌, ◌^◌, Bool, true, false, ◌||◌, nat_eq, Option, Some, None, is_some, IfSome, List, [], ◌∷◌, Result, Ok, Err, refl, sym, ap, subst, ◌∙◌, ◌⊎◌, inl, inr, arith, if◌then◌else◌, length, take}
+use Rattle.std.proofs.Common.{◌≡◌, ◌≢◌, ℕ, ◌+◌, ◌-◌, ◌<◌, ◌^◌, Bool, true, false, ◌||◌, nat_eq, Option, Some, None, is_some, IfSome, List, [], ◌∷◌, Result, Ok, Err, refl, sym, ap, subst, ◌∙◌, ◌⊎◌, inl, inr, arith, if◌then◌else◌, length, take}
 use Rattle.std.proofs.lemmas.Bool.Decides.{nat_tests}
 use Rattle.std.specs.Option.{option_map}
 use Rattle.std.specs.List.{slice_index_or}
@@ -24,19 +24,17 @@ use Rattle.ck_model.specs.Standing.{values_of}
 use Rattle.ck_volume.proofs.WorldAfter.{get-primary}
 use mathlib.Core.Bool.{false≢true}
 use Rattle.ck_model.specs.declared.key.Key.{Key}
-use Rattle.ck_model.specs.declared.key.Key.TheVariants.{Name, Node, Block}
+use Rattle.ck_model.specs.declared.key.Key.TheVariants.{Name, Node}
 use Rattle.ck_model.specs.declared.held.Held.{Held}
 use Rattle.ck_model.specs.declared.held.Held.TheVariants.{Plain}
-use Rattle.ck_model.specs.declared.held.Small.{Small}
 use Rattle.ck_model.specs.declared.held.Small.TheVariants as small
 use Rattle.ck_model.specs.declared.change.Change.TheVariants.{Put}
 use Rattle.ck_model.specs.declared.checkpoint.Counters.{Counters}
-use Rattle.ck_model.specs.Held.{IsWord, IsEntry, IsKey, BelongsTo, IsCounters}
-use Rattle.ck_model.specs.World.{World, Mounts}
+use Rattle.ck_model.specs.Held.{IsWord, IsEntry, IsKey}
+use Rattle.ck_model.specs.World.{World}
 use Rattle.ck_model.specs.Table.{Table, IsTable, column}
 use Rattle.ck_model.specs.Rules.{IsSound, stamp_in, KeyBelow}
 use Rattle.ck_model.specs.Values.{Store}
-use Rattle.ck_model.specs.Standing.{world_on}
 use Rattle.ck_volume.specs.Plain.{IsOurs}
 use Rattle.ck_volume.specs.Changing.{raised, IsRaised, MayChange, IsApart, MayChangeAll}
 use Rattle.ck_volume.specs.Making.{with_file, IsPlaceFor, file_items}

@@ -1,5 +1,5 @@
 -- How many blocks of the call's own stamp its changes put.
-use Rattle.std.proofs.Common.{◌≡◌, ◌≢◌, ℕ, ◌+◌, ◌<◌, Bool, true, false, cond, ◌&&◌, ◌||◌, Option, Some, None, is_some, IfSome, List, [], ◌∷◌, if◌then◌else◌, nat_eq, refl, sym, ap, subst, ◌∙◌, ◌⊎◌, inl, inr, arith}
+use Rattle.std.proofs.Common.{◌≡◌, ◌≢◌, ℕ, ◌+◌, ◌<◌, Bool, true, false, cond, ◌&&◌, Option, Some, None, is_some, IfSome, List, [], ◌∷◌, nat_eq, refl, sym, ap, ◌∙◌, inl, inr, arith}
 use Rattle.std.specs.Ordering.{eq_by_cmp, is_eq}
 use Rattle.std.specs.Bool.{⊤}
 use Rattle.std.specs.Option.{option_map}
@@ -25,12 +25,11 @@ use Rattle.ck_model.specs.Chain.{present}
 use Rattle.ck_model.specs.Rules.{IsSound, stamp_in}
 use Rattle.ck_model.specs.Values.{Store, cell_on, cells_on}
 use Rattle.ck_model.specs.Standing.{values_of}
-use Rattle.ck_model.proofs.CellsLemmas.{get-retain_keys}
 use Rattle.ck_model.proofs.Sizes.{len_same_keys, contains_key-retain_keys}
 use Rattle.ck_chain.specs.Changes.{key_of, is_write, value_after}
 use Rattle.ck_chain.proofs.Columns.{same_or_other}
 use Rattle.ck_push.specs.Growth.{one_if, write_count}
-use Rattle.ck_volume.specs.Changing.{set_cell, with_change, with_changes, MayChange, IsApart, AllApart, MayChangeAll}
+use Rattle.ck_volume.specs.Changing.{set_cell, with_change, with_changes, MayChange, AllApart, MayChangeAll}
 use Rattle.ck_volume.proofs.WorldAfter.{get-set_cell, get-primary}
 
 -- the blocks of a map with this stamp

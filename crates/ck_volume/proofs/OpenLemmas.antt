@@ -1,5 +1,5 @@
 -- A volume as it is opened.
-use Rattle.std.proofs.Common.{◌≡◌, ◌⊎◌, inl, inr, ⊎_elim, ℕ, zero, suc, ◌||◌, ◌<◌, ◌≤◌, Bool, true, false, not, IsTrue, None, List, [], ◌∷◌, length, nat_eq, slice_index_or, Result, Ok, Err, IfOk, IfErr, refl, sym, ap, subst, ◌∙◌, arith}
+use Rattle.std.proofs.Common.{◌≡◌, inr, ⊎_elim, ℕ, zero, suc, ◌||◌, ◌<◌, ◌≤◌, Bool, true, false, not, IsTrue, None, List, [], ◌∷◌, length, nat_eq, slice_index_or, Result, Ok, Err, IfOk, IfErr, refl, sym, ap, subst, ◌∙◌, arith}
 use Rattle.std.specs.List.{list_any}
 use Rattle.std.proofs.lemmas.Bool.Decides.{nat_tests}
 use Rattle.ck_alloc.specs.Blocks.{Allocation, IsPartition, used_alone}
@@ -11,32 +11,28 @@ use Rattle.ck_volume.proofs.UseLemmas.{is-named, extent_is}
 use mathlib.Core.Bool.{false≢true}
 use Rattle.std.specs.FinMap as map
 use Rattle.std.specs.FinSet as set
-use Rattle.ck_disk.specs.Disk.{Image, Meaning, Lawful, Agrees, IsClean, IsSynced, LeavesOnly, Rose}
+use Rattle.ck_disk.specs.Disk.{Image, Meaning, Lawful, IsClean, IsSynced, LeavesOnly, Rose}
 use Rattle.ck_log.specs.Layout.{Layout, base_of, size_of}
 use Rattle.ck_log.specs.Header.{Opens as OpensAt}
-use Rattle.ck_log.specs.Images.{recovered_region, table_on, Settled}
+use Rattle.ck_log.specs.Images.{recovered_region, Settled}
 use Rattle.ck_log.proofs.Recovery.{recovered_region-agrees, table_on-agrees, area_of-settled, settled-keeps}
-use Rattle.ck_model.specs.declared.checkpoint.Fileset.{Fileset}
 use Rattle.ck_model.specs.World.{keeps_files}
-use Rattle.ck_model.specs.Table.{Table, IsTable, IsSized}
+use Rattle.ck_model.specs.Table.{Table}
 use Rattle.ck_model.specs.Rules.{IsSound}
 use Rattle.ck_model.specs.Standing.{world_on}
 use Rattle.ck_area.specs.Area.{AreSlots}
-use Rattle.ck_area.specs.Damage.{is_unbuilt_form}
 use Rattle.ck_slots.specs.Opened.{IsBuilt, IsOpened as IsOpenedTable}
-use Rattle.ck_volume.specs.Allocating.{is_named, is_busy, IsAllocated}
-use Rattle.ck_volume.specs.Committed.{Keeps, IsCommitted}
+use Rattle.ck_volume.specs.Allocating.{is_named, IsAllocated}
 use Rattle.ck_volume.specs.Device.{store_on}
-use Rattle.ck_volume.specs.Files.{AreFiles}
-use Rattle.ck_volume.specs.Opening.{IsBegun, IsOpened, IsFound, IsOpenFault}
+use Rattle.ck_volume.specs.Opening.{IsOpened, IsFound, IsOpenFault}
 use Rattle.ck_volume.specs.declared.open.OpenFault.{OpenFault}
 use Rattle.ck_volume.specs.declared.open.OpenFault.TheVariants as fault
-use Rattle.ck_volume.specs.Plain.{IsOurs, IsPlain, IsPlainFileset}
+use Rattle.ck_volume.specs.Plain.{IsOurs, IsPlain}
 use Rattle.ck_volume.specs.Reading.{OnlyReads}
 use Rattle.ck_volume.specs.Recovering.{Recovery, NotVolume, BadFormat, Damaged, Finds, Recovers}
-use Rattle.ck_volume.specs.Safe.{IsNamedAt, HoldsTable, IsSafe}
+use Rattle.ck_volume.specs.Safe.{HoldsTable, IsSafe}
 use Rattle.ck_volume.specs.declared.volume.Volume.{Volume}
-use Rattle.ck_volume.specs.Volume.{disk_of, table_of, mounts_of, blocks_of, layout_of, data_of, world_of, IsWhole, KeepsWorld}
+use Rattle.ck_volume.specs.Volume.{table_of, mounts_of, blocks_of, layout_of, world_of}
 use Rattle.ck_volume.proofs.SafeLemmas.{holds-recovers}
 use Rattle.ck_volume.proofs.CommittedLemmas.{leaves_start, leaves_step, leaves_now}
 

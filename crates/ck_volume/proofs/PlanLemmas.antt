@@ -1,15 +1,14 @@
 -- A write that is planned: why it is answered at once, and that there is room for it.
-use Rattle.std.proofs.Common.{◌≡◌, ◌≢◌, ℕ, ◌+◌, ◌-◌, ◌<◌, ◌≤◌, ◌^◌, ◌&&◌, Bool, true, false, not, Option, Some, None, is_some, Result, Ok, Err, List, [], ◌∷◌, ◌++◌, length, if◌then◌else◌, nat_eq, nat_le, nat_lt, refl, sym, ap, subst, ◌∙◌, arith}
+use Rattle.std.proofs.Common.{◌≡◌, ◌≢◌, ℕ, ◌+◌, ◌-◌, ◌<◌, ◌≤◌, ◌^◌, ◌&&◌, Bool, true, false, not, is_some, Result, Ok, Err, List, [], ◌∷◌, ◌++◌, length, if◌then◌else◌, nat_eq, nat_le, nat_lt, refl, sym, ap, subst, ◌∙◌, arith}
 use Rattle.std.specs.FinMap as map
 use Rattle.std.specs.Bool.{◌==◌}
 use Rattle.std.proofs.lemmas.Bool.Decides.{nat_tests}
-use mathlib.Core.Bool.{false≢true}
-use Rattle.ck_model.specs.declared.key.Key.TheVariants.{Node, Block}
+use Rattle.ck_model.specs.declared.key.Key.TheVariants.{Node}
 use Rattle.ck_model.specs.declared.held.Small.TheVariants as small
 use Rattle.ck_model.specs.declared.change.Change.{Change}
 use Rattle.ck_model.specs.declared.change.Change.TheVariants.{Put, Write}
 use Rattle.ck_model.specs.declared.reply.Reply.{Reply}
-use Rattle.ck_model.specs.declared.reply.Reply.TheVariants.{IsDir, Spent, TooBig, NoSpace, Done}
+use Rattle.ck_model.specs.declared.reply.Reply.TheVariants.{IsDir, Spent, TooBig, NoSpace}
 use Rattle.ck_model.specs.declared.reply.SpaceOf.TheVariants.{Blocks, Records}
 use Rattle.ck_model.specs.History.{is_fault}
 use Rattle.ck_model.specs.Standing.{extent_count}
@@ -29,9 +28,7 @@ use Rattle.ck_push.specs.Changed.{push_of}
 use Rattle.ck_push.specs.Growth.{gain, gains, losses, one_if, write_count}
 use Rattle.ck_volume.specs.Plain.{IsOurs}
 use Rattle.ck_volume.specs.Room.{has_room, lack_of_room, answered_with}
-use Rattle.ck_volume.specs.Changing.{with_changes}
 use Rattle.ck_volume.specs.Writing.{write_items}
-use Rattle.ck_volume.specs.Allocating.{is_named}
 use Rattle.ck_volume.proofs.Worlds.{SameNamed}
 use Rattle.ck_volume.proofs.UseLemmas.{is-named}
 use Rattle.ck_volume.proofs.ChangingLemmas.{changing-full}

@@ -1,23 +1,21 @@
 -- A planned write, once its block is stored.
-use Rattle.std.proofs.Common.{◌≡◌, ◌≢◌, ℕ, ◌+◌, ◌-◌, ◌<◌, ◌≤◌, ◌&&◌, ◌||◌, Bool, true, false, Option, Some, None, Ok, List, [], ◌∷◌, ◌++◌, length, if◌then◌else◌, nat_eq, nat_le, nat_lt, refl, sym, ap, subst, ◌∙◌, arith}
+use Rattle.std.proofs.Common.{◌≡◌, ℕ, ◌+◌, ◌-◌, ◌<◌, ◌≤◌, ◌&&◌, ◌||◌, Bool, true, false, Ok, List, [], ◌∷◌, ◌++◌, length, if◌then◌else◌, nat_eq, nat_le, nat_lt, refl, sym, ap, subst, ◌∙◌, arith}
 use Rattle.std.specs.Ordering.{nat_cmp, eq_by_cmp}
 use Rattle.std.specs.Cmp.{unsigned_tied}
 use Rattle.std.specs.Option.{option_and_then}
-use Rattle.std.specs.FinMap as map
 use Rattle.std.specs.FinSet as set
 use Rattle.std.proofs.lemmas.Bool.Decides.{nat_tests}
 use Rattle.std.proofs.lemmas.Cmp.{nat_cmp_total}
 use mathlib.Core.Bool.{false≢true}
 use Rattle.ck_model.specs.declared.key.Key.TheVariants.{Node, Block}
 use Rattle.ck_model.specs.declared.held.Small.TheVariants as small
-use Rattle.ck_model.specs.declared.change.Change.{Change}
 use Rattle.ck_model.specs.declared.change.Change.TheVariants.{Put, Write}
 use Rattle.ck_model.specs.declared.reply.Reply.TheVariants.{Done}
-use Rattle.ck_model.specs.Cells.{Cells, size_at}
+use Rattle.ck_model.specs.Cells.{size_at}
 use Rattle.ck_model.specs.Changes.{written, block_after}
 use Rattle.ck_model.specs.Changing.{with_primary}
 use Rattle.ck_model.specs.Step.{changing}
-use Rattle.ck_model.specs.World.{World, Mounts}
+use Rattle.ck_model.specs.World.{Mounts}
 use Rattle.ck_model.specs.Table.{Table, record_count, spare_count}
 use Rattle.ck_model.specs.Chain.{value_at}
 use Rattle.ck_model.specs.Rules.{block_in}
@@ -26,15 +24,14 @@ use Rattle.ck_model.specs.Standing.{values_of, world_on, extent_count}
 use Rattle.ck_model.proofs.ValuesOf.{get-values_of}
 use Rattle.ck_chain.specs.Naming.{IsNamed}
 use Rattle.ck_chain.specs.Changes.{deletions_first}
-use Rattle.ck_push.specs.Growth.{gains, losses, write_count}
+use Rattle.ck_push.specs.Growth.{gains, losses}
 use Rattle.ck_alloc.specs.Blocks.{Allocation, IsFree, IsPartition}
 use Rattle.ck_volume.specs.Plain.{IsOurs}
-use Rattle.ck_volume.specs.Files.{AreFiles}
 use Rattle.ck_volume.specs.Room.{has_room, answered_with}
-use Rattle.ck_volume.specs.Changing.{raised, changed_all, MayChangeAll, written_by}
+use Rattle.ck_volume.specs.Changing.{raised, changed_all, written_by}
 use Rattle.ck_volume.specs.Reading.{bytes_of}
 use Rattle.ck_volume.specs.Writing.{patched, write_items, AgreeBut}
-use Rattle.ck_volume.specs.Allocating.{is_named, is_taken, IsAllocatedBut, is_busy, KeepsBusy}
+use Rattle.ck_volume.specs.Allocating.{is_named, IsAllocatedBut, is_busy, KeepsBusy}
 use Rattle.ck_volume.proofs.Worlds.{SameNamed}
 use Rattle.ck_volume.proofs.UseLemmas.{named-is, is-named}
 use Rattle.ck_volume.proofs.ChangingLemmas.{changing-fits}

@@ -1,5 +1,5 @@
 -- A call has room in a volume's table exactly where it has room in the world.
-use Rattle.std.proofs.Common.{◌≡◌, ◌≢◌, ℕ, zero, suc, ◌+◌, ◌-◌, ◌<◌, ◌≤◌, Bool, true, false, not, cond, T, ◌&&◌, ◌||◌, IsSome, is_some, if◌then◌else◌, List, [], ◌∷◌, map as list_map, filter, find, length, Option, Some, None, nat_eq, nat_le, nat_lt, refl, sym, ap, subst, ◌∙◌, ◌⊎◌, inl, inr, arith}
+use Rattle.std.proofs.Common.{◌≡◌, ℕ, zero, suc, ◌+◌, ◌-◌, ◌≤◌, Bool, true, false, not, cond, ◌&&◌, IsSome, is_some, if◌then◌else◌, List, [], ◌∷◌, map as list_map, find, length, Option, Some, None, nat_le, refl, sym, ap, ◌∙◌, inl, inr, arith}
 use Rattle.std.specs.Option.{option_or, option_map, option_map_or}
 use Rattle.std.specs.List.{AllByRecursion}
 use Rattle.std.specs.FinMap.{nat_cmp-IsAntisymmetric, entries_sorted}
@@ -7,23 +7,20 @@ use Rattle.std.specs.FinMap as map
 use Rattle.std.proofs.lemmas.Bool.Decides.{nat_tests}
 use Rattle.std.proofs.lemmas.Cmp.{nat_cmp_total}
 use mathlib.Core.Bool.{false≢true}
-use Rattle.ck_model.specs.declared.key.Key.{Key}
-use Rattle.ck_model.specs.declared.held.Held.TheVariants.{Extent}
 use Rattle.ck_model.specs.declared.reply.Reply.{Reply}
 use Rattle.ck_model.specs.declared.reply.Reply.TheVariants.{NoSpace}
 use Rattle.ck_model.specs.declared.reply.SpaceOf.TheVariants.{Blocks, Records}
 use Rattle.ck_model.specs.declared.checkpoint.Fileset.{Fileset}
 use Rattle.ck_model.specs.World.{World, Checkpoint, Mounts, keeps_files, without_checkpoint}
-use Rattle.ck_model.specs.Space.{held, records_in, fits, blocks_fit, pick, oldest_removable, given_up, without_picks, no_space}
+use Rattle.ck_model.specs.Space.{held, records_in, fits, pick, oldest_removable, given_up, without_picks, no_space}
 use Rattle.ck_model.specs.Step.{Outcome, with_room}
-use Rattle.ck_model.specs.Table.{Table, IsTable, IsSized, column, record_count}
-use Rattle.ck_model.specs.Chain.{keeps_data}
+use Rattle.ck_model.specs.Table.{Table, IsTable, record_count}
 use Rattle.ck_model.specs.Rules.{IsSound}
 use Rattle.ck_model.specs.Values.{Store}
-use Rattle.ck_model.specs.Standing.{checkpoint_on, live_filesets, checkpoints_on, world_on, extent_count}
+use Rattle.ck_model.specs.Standing.{checkpoint_on, checkpoints_on, world_on, extent_count}
 use Rattle.ck_model.proofs.Filesets.{all_found}
 use Rattle.ck_model.proofs.Counted.{NoneGone, AllStripped, records_are, extents_are, live_all}
-use Rattle.ck_volume.specs.Plain.{IsPlain, IsPlainFileset, IsOurs}
+use Rattle.ck_volume.specs.Plain.{IsPlain, IsOurs}
 use Rattle.ck_volume.specs.Room.{Grows, has_room, lack_of_room, answered_with}
 use Rattle.ck_volume.proofs.Checkpoints.{keeps_itself}
 

@@ -1,27 +1,24 @@
 -- A safe table: every image that a crash may leave opens to the world that it stands for.
-use Rattle.std.proofs.Common.{◌≡◌, ◌≢◌, ◌⊎◌, inl, inr, ⊎_elim, ℕ, ◌+◌, ◌-◌, ◌*◌, ◌<◌, ◌≤◌, ◌||◌, Bool, true, false, not, None, IsTrue, List, [], length, get_or, set, if◌then◌else◌, refl, sym, ap, subst, ◌∙◌, arith, get_or-set_other, length-set}
+use Rattle.std.proofs.Common.{◌≡◌, ◌≢◌, ◌⊎◌, inl, inr, ⊎_elim, ℕ, ◌+◌, ◌-◌, ◌*◌, ◌≤◌, ◌||◌, Bool, true, false, not, None, IsTrue, [], length, get_or, if◌then◌else◌, refl, sym, ap, subst, ◌∙◌, arith, get_or-set_other, length-set}
 use mathlib.Core.Bool.{false≢true}
 use Rattle.std.specs.FinMap as map
-use Rattle.std.specs.FinSet as set
-use Rattle.ck_disk.specs.Disk.{Image, Meaning, Agrees, Outside, Reaches, Lawful, Step, LeavesOnly, Within, IsSynced}
-use Rattle.ck_log.specs.Layout.{Layout, table_blocks, area_at, base_of}
+use Rattle.ck_disk.specs.Disk.{Image, Meaning, Agrees, Outside, Lawful, LeavesOnly, IsSynced}
+use Rattle.ck_log.specs.Layout.{Layout, table_blocks, base_of}
 use Rattle.ck_log.specs.Header.{Opens as OpensAt}
-use Rattle.ck_log.specs.Images.{recovered_region, table_on, names_second, HasTable, HasBefore, HasAfter, Settled, CommitLeaves}
+use Rattle.ck_log.specs.Images.{recovered_region, table_on, names_second, HasBefore, HasAfter, Settled, CommitLeaves}
 use Rattle.ck_log.proofs.Areas.{area_low, area_high}
 use Rattle.ck_log.proofs.Recovery.{recovered_region-set, table_on-set, recovered_region-gate, recovered_region-settled}
 use Rattle.ck_alloc.specs.Blocks.{Allocation, IsFree}
-use Rattle.ck_model.specs.declared.checkpoint.Fileset.{Fileset}
-use Rattle.ck_model.specs.World.{keeps_files}
 use Rattle.ck_model.specs.Table.{Table}
 use Rattle.ck_model.specs.Standing.{world_on}
 use Rattle.ck_area.specs.Area.{Area, AreSlots, table_of, written_as}
-use Rattle.ck_area.specs.Damage.{damage, is_unbuilt, is_unbuilt_form}
+use Rattle.ck_area.specs.Damage.{damage, is_unbuilt}
 use Rattle.ck_area.proofs.WrittenLemmas.{read_again, undamaged_written, built_written}
 use Rattle.ck_volume.specs.Allocating.{is_named, is_busy}
 use Rattle.ck_volume.specs.Device.{store_on}
 use Rattle.ck_volume.specs.Plain.{IsOurs}
 use Rattle.ck_volume.specs.Reading.{OnlyReads}
-use Rattle.ck_volume.specs.Recovering.{Recovery, Opens, BadFormat, world_in, unless_damaged, recovery_of, FindsBy, Recovers}
+use Rattle.ck_volume.specs.Recovering.{Opens, BadFormat, world_in, unless_damaged, recovery_of, FindsBy, Recovers}
 use Rattle.ck_volume.specs.Safe.{IsNamedAt, HoldsTable, IsSafe}
 use Rattle.ck_volume.specs.Storing.{IsStored, StoredOrSame, OnlyStores}
 use Rattle.ck_volume.proofs.Worlds.{SameNamed, world_same}

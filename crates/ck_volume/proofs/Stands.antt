@@ -1,13 +1,12 @@
 -- The map that a fileset stands for over data blocks, as paths and files are looked up in it.
-use Rattle.std.proofs.Common.{◌≡◌, ℕ, ◌<◌, Option, Some, None, is_some, refl, sym, ap, subst, ◌∙◌}
+use Rattle.std.proofs.Common.{◌≡◌, ℕ, ◌<◌, Option, Some, None, is_some, refl, ap, subst, ◌∙◌}
 use Rattle.std.specs.Option.{option_map, option_and_then, ForSome}
-use Rattle.std.specs.FinMap as map
 use Rattle.ck_model.specs.declared.key.Key.{Key}
 use Rattle.ck_model.specs.declared.cell.Cell.{Cell}
 use Rattle.ck_model.specs.declared.held.Held.{Held}
 use Rattle.ck_model.specs.declared.held.Held.TheVariants.{Absent, Plain, Extent, Mark}
 use Rattle.ck_model.specs.declared.held.Small.TheVariants.{To, File, Dir}
-use Rattle.ck_model.specs.Table.{Table, column}
+use Rattle.ck_model.specs.Table.{Table}
 use Rattle.ck_model.specs.Chain.{value_at}
 use Rattle.ck_model.specs.Rules.{IsSound, block_in}
 use Rattle.ck_model.specs.Values.{Store, cell_on, cells_on}

@@ -1,19 +1,18 @@
 -- What calls leave of a volume and its device.
-use Rattle.std.proofs.Common.{◌≡◌, ◌≢◌, ◌⊎◌, inl, inr, ⊎_elim, ℕ, ◌+◌, ◌-◌, ◌*◌, ◌<◌, ◌≤◌, ◌==◌, ◌||◌, IsTrue, Bool, false, List, [], get_or, set, Result, Ok, Err, OnOk, OnErr, refl, sym, ap, subst, ◌∙◌, arith, get_or-set_other}
+use Rattle.std.proofs.Common.{◌≡◌, ◌≢◌, inl, inr, ⊎_elim, ℕ, ◌+◌, ◌-◌, ◌<◌, ◌≤◌, ◌==◌, ◌||◌, IsTrue, false, List, [], get_or, Result, Ok, Err, OnOk, refl, sym, ap, subst, ◌∙◌, arith, get_or-set_other}
 use Rattle.std.specs.FinMap as map
 use Rattle.std.specs.FinSet as set
 use Rattle.std.specs.Ordering.{nat_cmp}
 use Rattle.ck_disk.specs.Disk.{Image, Meaning, Lawful, Step, LeavesOnly, Agrees, Outside, IsSynced}
-use Rattle.ck_log.specs.Layout.{Layout, table_blocks, base_of, size_of}
-use Rattle.ck_log.specs.Images.{table_on, names_second, Settled, CommitLeaves, HasTable}
+use Rattle.ck_log.specs.Layout.{Layout, base_of, size_of}
+use Rattle.ck_log.specs.Images.{table_on, names_second, Settled, CommitLeaves}
 use Rattle.ck_log.proofs.Areas.{area_low, area_high}
 use Rattle.ck_log.proofs.Recovery.{table_on-set, settled-keeps}
 use Rattle.ck_alloc.specs.Blocks.{Allocation, IsPartition, free_count}
-use Rattle.ck_model.specs.World.{World, Mounts, unmounted}
+use Rattle.ck_model.specs.World.{World, unmounted}
 use Rattle.ck_model.specs.Table.{Table}
 use Rattle.ck_model.specs.Standing.{world_on, extent_count}
-use Rattle.ck_area.specs.Area.{AreSlots, written_as}
-use Rattle.ck_volume.specs.Allocating.{is_named, is_busy, IsAllocated, KeepsBusy}
+use Rattle.ck_volume.specs.Allocating.{IsAllocated, KeepsBusy}
 use Rattle.ck_volume.specs.Committed.{Keeps, OpensToEither}
 use Rattle.ck_volume.specs.Device.{store_on}
 use Rattle.ck_volume.specs.Files.{AreFiles}
@@ -24,7 +23,7 @@ use Rattle.ck_slots.specs.Committed.{Commits}
 use Rattle.ck_volume.specs.Telling.{limits_of}
 use Rattle.ck_volume.specs.declared.fault.Fault.{Fault}
 use Rattle.ck_volume.specs.declared.volume.Volume.{Volume}
-use Rattle.ck_volume.specs.Volume.{disk_of, table_of, mounts_of, blocks_of, layout_of, data_of, world_of, IsWhole, KeepsWorld, GoesOn, GoesOnOrBreaks, Survives, Runs, IsAttempt}
+use Rattle.ck_volume.specs.Volume.{table_of, mounts_of, blocks_of, layout_of, data_of, world_of, IsWhole, KeepsWorld, GoesOn, GoesOnOrBreaks, Runs, IsAttempt}
 use Rattle.ck_volume.proofs.Allocated.{used_count}
 use Rattle.ck_volume.proofs.Worlds.{world_same}
 use Rattle.ck_volume.proofs.SafeLemmas.{kept_there}

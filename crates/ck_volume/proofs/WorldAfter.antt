@@ -1,5 +1,5 @@
 -- The world that a table stands for after changes of the primary.
-use Rattle.std.proofs.Common.{◌≡◌, ◌≢◌, ℕ, ◌<◌, Bool, true, false, cond, Option, Some, None, IfSome, List, [], ◌∷◌, refl, sym, ap, subst, ◌∙◌, ◌⊎◌, inl, inr}
+use Rattle.std.proofs.Common.{◌≡◌, ◌≢◌, ℕ, ◌<◌, false, cond, Option, Some, None, IfSome, List, [], ◌∷◌, refl, sym, ap, ◌∙◌, inl, inr}
 use Rattle.std.specs.Ordering.{eq_by_cmp, is_eq}
 use Rattle.std.specs.Option.{option_map}
 use Rattle.std.specs.FinMap as map
@@ -15,17 +15,17 @@ use Rattle.ck_model.specs.Key.{key_cmp, key_cmp_total, key_cmp_exact}
 use Rattle.ck_model.specs.Cells.{Cells}
 use Rattle.ck_model.specs.World.{World, Mounts}
 use Rattle.ck_model.specs.Table.{Table, IsTable, column}
-use Rattle.ck_model.specs.Chain.{present, value_at}
+use Rattle.ck_model.specs.Chain.{present}
 use Rattle.ck_model.specs.Rules.{IsSound, IsOwn}
-use Rattle.ck_model.specs.Values.{Store, Values, cell_on, cells_on}
-use Rattle.ck_model.specs.Standing.{values_of, checkpoints_on, world_on}
+use Rattle.ck_model.specs.Values.{Store, cell_on, cells_on}
+use Rattle.ck_model.specs.Standing.{values_of, world_on}
 use Rattle.ck_model.proofs.ValuesOf.{get-values_of, get-cells_on}
 use Rattle.ck_chain.specs.Changes.{key_of, value_after}
 use Rattle.ck_chain.proofs.Columns.{same_or_other}
 use Rattle.ck_push.specs.Changed.{changed}
 use Rattle.ck_push.proofs.SeenLaws.{others_stay, primary_changed, changed_reads}
 use Rattle.ck_volume.specs.Plain.{IsPlain}
-use Rattle.ck_volume.specs.Changing.{changed_all, set_cell, with_change, with_changes, MayChangeAll}
+use Rattle.ck_volume.specs.Changing.{changed_all, set_cell, with_changes, MayChangeAll}
 use Rattle.ck_volume.proofs.Checkpoints.{checkpoints_kept}
 use Rattle.ck_volume.proofs.ChangedLaws.{lawful_after, sound_after, may_all_after}
 

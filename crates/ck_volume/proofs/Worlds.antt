@@ -1,27 +1,22 @@
 -- Tables that stand for the same world.
-use Rattle.std.proofs.Common.{◌≡◌, ◌≢◌, ℕ, ◌<◌, ◌≤◌, Bool, true, false, not, cond, T, ◌&&◌, ◌||◌, IsSome, is_some, if◌then◌else◌, List, [], ◌∷◌, ◌++◌, map as list_map, filter, length, Option, Some, None, nat_eq, refl, sym, ap, subst, ◌∙◌, ◌⊎◌, inl, inr, arith}
-use Rattle.std.specs.Bool.{⊤}
+use Rattle.std.proofs.Common.{◌≡◌, ℕ, true, false, cond, ◌||◌, is_some, List, [], ◌∷◌, ◌++◌, map as list_map, Option, Some, None, nat_eq, refl, sym, ap, subst, ◌∙◌, arith}
 use Rattle.std.specs.Ordering.{eq_by_cmp}
-use Rattle.std.specs.Option.{option_or, option_map, option_map_or}
-use Rattle.std.specs.List.{list_any, AllByRecursion}
+use Rattle.std.specs.Option.{option_or, option_map}
+use Rattle.std.specs.List.{list_any}
 use Rattle.std.specs.FinMap as map
 use Rattle.std.proofs.lemmas.Bool.Decides.{nat_tests}
 use mathlib.Core.Bool.{false≢true}
 use Rattle.ck_model.specs.declared.key.Key.{Key}
-use Rattle.ck_model.specs.declared.cell.Cell.{Cell}
 use Rattle.ck_model.specs.declared.cell.Payload.TheVariants.{Bytes}
 use Rattle.ck_model.specs.declared.held.Held.{Held}
 use Rattle.ck_model.specs.declared.held.Held.TheVariants.{Absent, Plain, Extent, Mark}
 use Rattle.ck_model.specs.declared.checkpoint.Fileset.{Fileset}
-use Rattle.ck_model.specs.declared.checkpoint.Kind.{Kind}
-use Rattle.ck_model.specs.declared.checkpoint.Kind.TheVariants.{Keeping, Nodata}
-use Rattle.ck_model.specs.Key.{key_cmp, key_cmp_total, key_cmp_exact, entry_cmp}
-use Rattle.ck_model.specs.Cells.{Cells}
-use Rattle.ck_model.specs.World.{World, Checkpoint, Mounts, shown_by}
+use Rattle.ck_model.specs.Key.{key_cmp_total, key_cmp_exact, entry_cmp}
+use Rattle.ck_model.specs.World.{Mounts, shown_by}
 use Rattle.ck_model.specs.Table.{Table, column, newer}
 use Rattle.ck_model.specs.Chain.{first_entry, present, value_of, value_at}
 use Rattle.ck_model.specs.Values.{Store, Values, cell_on, cells_on}
-use Rattle.ck_model.specs.Standing.{values_of, checkpoint_on, live_filesets, checkpoints_on, world_on, blocks_in, blocks_of, extents_of}
+use Rattle.ck_model.specs.Standing.{values_of, checkpoint_on, live_filesets, world_on, blocks_in, blocks_of}
 use Rattle.ck_model.proofs.ValuesOf.{get-values_of, get-cells_on}
 use Rattle.ck_volume.specs.Allocating.{is_named}
 

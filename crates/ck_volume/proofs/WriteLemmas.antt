@@ -1,27 +1,23 @@
 -- A write within the first block of a file: its changes may be made, and lead to the world with the bytes.
-use Rattle.std.proofs.Common.{◌≡◌, ◌≢◌, ℕ, ◌+◌, ◌-◌, ◌*◌, ◌/◌, ◌<◌, ◌≤◌, ◌^◌, ◌&&◌, Bool, true, false, Option, Some, None, is_some, IfSome, Result, Ok, Err, List, [], ◌∷◌, ◌++◌, length, map as list_map, if◌then◌else◌, nat_eq, nat_le, nat_lt, slice_index, refl, sym, ap, subst, ◌∙◌, arith}
+use Rattle.std.proofs.Common.{◌≡◌, ℕ, ◌+◌, ◌-◌, ◌*◌, ◌/◌, ◌<◌, ◌≤◌, ◌^◌, ◌&&◌, true, false, List, [], ◌∷◌, ◌++◌, length, map as list_map, if◌then◌else◌, nat_eq, nat_le, nat_lt, slice_index, refl, sym, ap, ◌∙◌, arith}
 use Rattle.std.specs.List.{range_with_len}
 use Rattle.std.specs.Option.{option_and_then}
 use Rattle.std.specs.FinMap as map
 use Rattle.std.proofs.lemmas.Bool.Decides.{nat_tests}
 use mathlib.Core.Bool.{false≢true}
-use Rattle.ck_model.specs.declared.key.Key.{Key}
-use Rattle.ck_model.specs.declared.key.Key.TheVariants.{Name, Node, Block}
-use Rattle.ck_model.specs.declared.held.Held.{Held}
-use Rattle.ck_model.specs.declared.held.Held.TheVariants.{Extent, Plain}
+use Rattle.ck_model.specs.declared.key.Key.TheVariants.{Node, Block}
+use Rattle.ck_model.specs.declared.held.Held.TheVariants.{Extent}
 use Rattle.ck_model.specs.declared.held.Small.TheVariants as small
 use Rattle.ck_model.specs.declared.cell.Payload.TheVariants.{Bytes, File}
-use Rattle.ck_model.specs.declared.change.Change.{Change}
 use Rattle.ck_model.specs.declared.change.Change.TheVariants.{Put, Write}
 use Rattle.ck_model.specs.declared.checkpoint.Counters.{Counters}
-use Rattle.ck_model.specs.Held.{IsWord, IsCounters}
+use Rattle.ck_model.specs.Held.{IsWord}
 use Rattle.ck_model.specs.Cells.{Cells, with_cells, size_at}
 use Rattle.ck_model.specs.Changes.{cell_of, touched, block_after, grown_to, written}
 use Rattle.ck_model.specs.Table.{Table, IsTable, column}
 use Rattle.ck_model.specs.Rules.{IsSound, block_in}
 use Rattle.ck_model.specs.Values.{Store, Values, cells_on}
-use Rattle.ck_model.specs.Standing.{values_of}
-use Rattle.ck_chain.specs.Naming.{block_of, IsNamed}
+use Rattle.ck_chain.specs.Naming.{IsNamed}
 use Rattle.ck_volume.specs.Plain.{IsOurs}
 use Rattle.ck_volume.specs.Changing.{raised, IsRaised, MayChange, IsApart, MayChangeAll, with_changes}
 use Rattle.ck_volume.specs.Reading.{bytes_of}

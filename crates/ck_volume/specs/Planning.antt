@@ -1,12 +1,12 @@
 -- What a write comes to, before anything is written.
-use Rattle.std.specs.Prelude.{◌≡◌, ◌≢◌, ◌≤◌, ◌<◌, ◌+◌, ◌-◌, ◌^◌, ℕ, true, false, List, length, Ok}
+use Rattle.std.specs.Prelude.{◌≡◌, ◌<◌, ◌+◌, ◌-◌, ◌^◌, ℕ, true, false, List, length, Ok}
 use Rattle.ck_model.specs.Changes.{written}
 use Rattle.ck_model.specs.Changing.{overwritten, with_primary}
 use Rattle.ck_model.specs.History.{is_fault}
 use Rattle.ck_model.specs.Held.{IsWord}
 use Rattle.ck_model.specs.Step.{changing}
 use Rattle.ck_model.specs.Cells.{size_at}
-use Rattle.ck_model.specs.World.{World, Mounts}
+use Rattle.ck_model.specs.World.{Mounts}
 use Rattle.ck_model.specs.Table.{Table}
 use Rattle.ck_model.specs.Values.{Store, cells_on}
 use Rattle.ck_model.specs.Standing.{values_of, world_on}

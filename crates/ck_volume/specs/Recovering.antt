@@ -1,5 +1,5 @@
 -- What opening finds on a device.
-use Rattle.std.specs.Prelude.{◌≡◌, ℕ, ◌+◌, ◌/◌, ◌%◌, Bool, true, false, List, Option, Some, None, if◌then◌else◌}
+use Rattle.std.specs.Prelude.{◌≡◌, ℕ, ◌+◌, ◌/◌, ◌%◌, Option, Some, None, if◌then◌else◌}
 use Rattle.std.specs.FinMap as map
 use Rattle.ck_disk.specs.Disk.{Image}
 use Rattle.ck_log.specs.Layout.{Layout, area_at, base_of}

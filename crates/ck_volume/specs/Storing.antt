@@ -1,5 +1,5 @@
 -- What a call does to the device that stores data blocks in free places.
-use Rattle.std.specs.Prelude.{◌≡◌, ◌≢◌, ◌⊎◌, ℕ, ◌+◌, List, IsTrue, set}
+use Rattle.std.specs.Prelude.{◌≡◌, ◌⊎◌, ℕ, ◌+◌, List, IsTrue, set}
 use Rattle.ck_disk.specs.Disk.{Image, Meaning, Step}
 use Rattle.ck_alloc.specs.Blocks.{Allocation, IsFree}
 

@@ -1,5 +1,5 @@
 -- What a volume stands for, and what its events answer.
-use Rattle.std.specs.Prelude.{◌≡◌, ◌≤◌, ◌+◌, ℕ, Bool, true, None, Option, Result, Ok, Err, IsTrue, MatchBool, nat_eq, ◌⊎◌}
+use Rattle.std.specs.Prelude.{◌≡◌, ◌≤◌, ℕ, Bool, true, None, Option, Result, Ok, Err, IsTrue, MatchBool, nat_eq, ◌⊎◌}
 use Rattle.ck_disk.specs.Disk.{Image, Meaning, Rose, LeavesOnly}
 use Rattle.ck_log.specs.Layout.{Layout, base_of, size_of}
 use Rattle.ck_log.specs.Images.{Settled}

@@ -1,4 +1,4 @@
-ghost use Rattle.std.specs.Prelude.{◌≡◌, ◌+◌, ◌≤◌, ◌<◌, ◌⊎◌, ℕ, List, IsTrue, IfOk, IfErr, length};
+ghost use Rattle.std.specs.Prelude.{◌≡◌, ◌+◌, ◌≤◌, ◌<◌, ◌⊎◌, ℕ, List, None, IsTrue, IfOk, IfErr, length, nat_eq, if◌then◌else◌};
 ghost use Rattle.ck_volume.specs.declared.fault.Fault.TheVariants.{ReadFault, WriteFault};
 ghost use Rattle.std.specs.Option.{ForSome};
 ghost use Rattle.std.specs.FinSet as set;
@@ -49,6 +49,14 @@ fn put_block<D: Disk>(
     }
 }
 
+/// The old block, of which something stays below these bytes: where they are a whole block nothing
+/// does.
+fn kept_of(old: Option<u32>, bytes: &[u8]) -> Option<u32>
+    ensures { result ≡ (if nat_eq (length bytes.now) 4096 then None else old) }
+{
+    if bytes.len() == 4096 { None } else { old }
+}
+
 /// Stores a new data block: what the old one holds, or zeros, with these bytes put over a part of
 /// it. Where the old block can't be read nothing is written and no block is taken.
 pub fn store_block<D: Disk>(
@@ -75,7 +83,7 @@ pub fn store_block<D: Disk>(
     ensures err { IfErr result (λ fault. ((fault ≡ ReadFault) × (blocks.new ≡ blocks.old)) ⊎ (fault ≡ WriteFault)) }
 {
     let mut content = [0; 4096];
-    load(disk, area, old, &mut content)?;
+    load(disk, area, kept_of(old, bytes), &mut content)?;
     patch(&mut content, at as usize, bytes);
     put_block(disk, area, blocks, &content)
 }

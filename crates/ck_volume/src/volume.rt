@@ -8,14 +8,14 @@ use ck_slots::Slots;
 /// more.
 #[derive(Drop)]
 pub struct Volume<D> {
-    pub slots: Slots,
+    pub(crate) slots: Slots,
     /// Where the table is committed.
-    pub region: Region,
-    pub blocks: Blocks,
-    pub mounts: Mounts,
-    pub disk: D,
+    pub(crate) region: Region,
+    pub(crate) blocks: Blocks,
+    pub(crate) mounts: Mounts,
+    pub(crate) disk: D,
     /// How many calls were answered.
-    pub length: u32,
+    pub(crate) length: u32,
     /// The number of the answer that told of the failed write, counted from 0.
-    pub broken: Option<u32>,
+    pub(crate) broken: Option<u32>,
 }

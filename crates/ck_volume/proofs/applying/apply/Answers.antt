@@ -1,8 +1,8 @@
-use Rattle.std.proofs.Common.{◌≡◌, inl, inr, sym, ap, ◌∙◌}
+use Rattle.std.proofs.Common.{inl, inr, sym, ap, ◌∙◌}
 use Rattle.std.specs.FinMap as map
-use Rattle.ck_chain.specs.Naming.{block_of, IsNamed}
+use Rattle.ck_chain.specs.Naming.{block_of}
 use Rattle.ck_chain.specs.Changes.{key_of, value_after}
-use Rattle.ck_volume.specs.Allocating.{is_taken, blocks_held}
+use Rattle.ck_volume.specs.Allocating.{blocks_held}
 use Rattle.ck_volume.proofs.UseLemmas.{each_some, named-is, allocated_after, busy_after, held_block, block_held}
 use Rattle.ck_volume.proofs.applying.apply.Goals as goal
 

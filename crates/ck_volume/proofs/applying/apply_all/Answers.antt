@@ -1,4 +1,4 @@
-use Rattle.std.proofs.Common.{◌≡◌, ◌+◌, ◌≤◌, true, suc, drop, drop-cons, length, ◌∷◌, sym, ap, subst, ◌∙◌, arith}
+use Rattle.std.proofs.Common.{◌≡◌, ◌+◌, suc, drop, drop-cons, ◌∷◌, sym, ap, subst, ◌∙◌, arith}
 use Rattle.ck_volume.specs.Changing.{changed_all, written_by}
 use Rattle.ck_volume.proofs.MadeLemmas.{MayMake, room_first, made_one, unnamed_all}
 use Rattle.ck_volume.proofs.applying.apply_all.Goals as goal

@@ -1,8 +1,6 @@
-use Rattle.std.proofs.Common.{◌≡◌, ◌||◌, ◌^◌, Bool, true, false, Ok, Err, [], nat_eq, refl, sym, ap, subst, ◌∙◌, inl, inr, arith}
-use Rattle.std.proofs.lemmas.Bool.Decides.{nat_tests}
+use Rattle.std.proofs.Common.{◌≡◌, Ok, Err, [], sym, ap, ◌∙◌, inl, inr}
 use Rattle.ck_model.specs.declared.checkpoint.Counters.{Counters}
 use Rattle.ck_model.specs.Walk.{new_name_at}
-use Rattle.ck_model.specs.Changing.{is_spent}
 use Rattle.ck_model.specs.Step.{changing}
 use Rattle.ck_model.specs.Values.{cells_on}
 use Rattle.ck_model.specs.Standing.{values_of, world_on}

@@ -1,4 +1,4 @@
-use Rattle.std.proofs.Common.{◌≡◌, ◌-◌, refl, sym, ap, subst, ◌∙◌, rules, arith}
+use Rattle.std.proofs.Common.{◌≡◌, ◌-◌, refl, sym, ap, subst, ◌∙◌, arith}
 use Rattle.ck_model.specs.declared.checkpoint.Counters.{Counters}
 use Rattle.ck_push.specs.Growth.{gains, losses}
 use Rattle.ck_volume.specs.Changing.{raised, changed_all, MayChangeAll}

@@ -1,7 +1,6 @@
-use Rattle.std.proofs.Common.{◌≡◌, ◌≢◌, ◌-◌, ◌≤◌, ◌<◌, ◌+◌, ◌^◌, Ok, Err, List, [], length, refl, sym, ap, subst, ◌∙◌, arith}
+use Rattle.std.proofs.Common.{◌≡◌, ◌≢◌, ◌-◌, ◌+◌, ◌^◌, Ok, Err, [], length, refl, sym, ap, ◌∙◌, arith}
 use Rattle.ck_model.specs.declared.checkpoint.Counters.{Counters}
 use Rattle.ck_model.specs.Walk.{file_at}
-use Rattle.ck_model.specs.Cells.{Cells}
 use Rattle.ck_model.specs.Changing.{with_primary}
 use Rattle.ck_model.specs.Step.{changing}
 use Rattle.ck_model.specs.Values.{cells_on}

@@ -1,4 +1,4 @@
-use Rattle.std.proofs.Common.{◌≡◌, ℕ, List, Ok, sym, ap, ◌∙◌}
+use Rattle.std.proofs.Common.{sym, ap, ◌∙◌}
 use Rattle.ck_model.specs.Cells.{Cells}
 use Rattle.ck_model.specs.Refusals.{and_then}
 use Rattle.ck_model.specs.Freezing.{with_data}

@@ -1,4 +1,4 @@
-use Rattle.std.proofs.Common.{◌≡◌, ℕ, List, Ok, Err, sym, ap, ◌∙◌}
+use Rattle.std.proofs.Common.{◌≡◌, Ok, Err, sym, ap, ◌∙◌}
 use Rattle.ck_model.specs.declared.reply.Reply.TheVariants.{Bytes}
 use Rattle.ck_model.specs.Refusals.{and_then}
 use Rattle.ck_model.specs.Reading.{file_range}

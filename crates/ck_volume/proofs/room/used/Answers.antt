@@ -1,4 +1,4 @@
-use Rattle.std.proofs.Common.{◌≡◌, ◌-◌, ◌+◌, arith}
+use Rattle.std.proofs.Common.{arith}
 use Rattle.ck_volume.proofs.Allocated.{used_count}
 use Rattle.ck_volume.proofs.room.used.Goals as goal
 

@@ -1,8 +1,8 @@
-use Rattle.std.proofs.Common.{IsTrue, ◌≡◌, sym, subst, ap, ◌∙◌}
+use Rattle.std.proofs.Common.{IsTrue, sym, subst, ◌∙◌}
 use Rattle.ck_volume.specs.Device.{store_on}
 use Rattle.ck_volume.specs.Reading.{bytes_of}
-use Rattle.ck_volume.specs.Writing.{patched}
 use Rattle.ck_volume.proofs.Ordinary.{if_ok_map}
+use Rattle.ck_volume.proofs.PatchLemmas.{patched_kept}
 use Rattle.ck_volume.proofs.storing.store_block.Goals as goal
 
 pub returns-clause-stored : goal.returns-clause-stored
@@ -12,5 +12,6 @@ returns-clause-stored g c =
     if_ok_map _ _ c.put_block.result
     (λ block stored told.
     stored (subst IsTrue (sym device.step.tells) told)
-    ∙ c.patch.ensures (bytes_of (store_on old.shows c.args.area.base) c.args.old) (c.in_ok-load.ensures.bytes told))
+    ∙ c.patch.ensures (bytes_of (store_on old.shows c.args.area.base) c.kept_of.result) (c.in_ok-load.ensures.bytes told)
+    ∙ patched_kept (store_on old.shows c.args.area.base) c.args.old c.args.bytes.now c.args.at c.requires.within c.kept_of.result c.kept_of.ensures)
     c.put_block.ensures.stored

@@ -1,14 +1,11 @@
-use Rattle.std.proofs.Common.{◌≡◌, ◌-◌, ◌<◌, ◌+◌, ◌≤◌, List, [], length, refl, sym, ap, subst, ◌∙◌, arith}
+use Rattle.std.proofs.Common.{◌≡◌, ◌-◌, ◌<◌, ◌≤◌, List, refl, sym, ap, subst, ◌∙◌, arith}
 use Rattle.std.specs.Option.{option_and_then, ForSome}
-use Rattle.ck_alloc.specs.Blocks.{free_count}
 use Rattle.ck_model.specs.declared.change.Change.{Change}
 use Rattle.ck_model.specs.declared.checkpoint.Counters.{Counters}
 use Rattle.ck_model.specs.declared.key.Key.TheVariants.{Block}
 use Rattle.ck_model.specs.Chain.{value_at}
 use Rattle.ck_model.specs.Rules.{block_in}
 use Rattle.ck_model.specs.Table.{spare_count}
-use Rattle.ck_model.specs.Values.{cells_on}
-use Rattle.ck_model.specs.Standing.{values_of}
 use Rattle.ck_chain.specs.Changes.{deletions_first}
 use Rattle.ck_push.specs.Growth.{gains, losses}
 use Rattle.ck_volume.specs.Allocating.{IsAllocatedBut}

@@ -1,4 +1,4 @@
-use Rattle.std.proofs.Common.{◌≡◌, IsTrue, refl}
+use Rattle.std.proofs.Common.{refl}
 use Rattle.ck_volume.proofs.VolumeLemmas.{commit-attempt, commit-committed, commit-goes}
 use Rattle.ck_volume.proofs.volume.Volume.commit_table.Goals as goal
 

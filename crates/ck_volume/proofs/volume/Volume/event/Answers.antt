@@ -1,6 +1,5 @@
-use Rattle.std.proofs.Common.{◌≡◌, ℕ, ◌+◌, Option, None, Some, if◌then◌else◌, false, sym, ap, subst, ◌∙◌, rules}
+use Rattle.std.proofs.Common.{◌≡◌, ℕ, ◌+◌, Option, None, Some, if◌then◌else◌, sym, ap, subst, ◌∙◌, rules}
 use Rattle.ck_model.specs.declared.entry.Entry.{Entry}
-use Rattle.ck_model.specs.declared.reply.Reply.{Reply}
 use Rattle.ck_model.specs.World.{World}
 use Rattle.ck_model.specs.History.{Past, is_fault, is_write_fault}
 use Rattle.ck_volume.specs.Volume.{Follows, world_of}

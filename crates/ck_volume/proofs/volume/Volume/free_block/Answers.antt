@@ -1,4 +1,4 @@
-use Rattle.std.proofs.Common.{◌≡◌, refl}
+use Rattle.std.proofs.Common.{refl}
 use Rattle.ck_volume.proofs.VolumeLemmas.{quiet-attempt, settled_free, on_ok_map}
 use Rattle.ck_volume.specs.Volume.{table_of, blocks_of}
 use Rattle.ck_volume.proofs.volume.Volume.free_block.Goals as goal

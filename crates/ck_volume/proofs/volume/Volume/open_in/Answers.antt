@@ -1,4 +1,4 @@
-use Rattle.std.proofs.Common.{◌≡◌, refl}
+use Rattle.std.proofs.Common.{refl}
 use Rattle.ck_volume.specs.Plain.{IsOurs}
 use Rattle.ck_volume.specs.Reading.{OnlyReads}
 use Rattle.ck_slots.specs.Slots.{table_in}

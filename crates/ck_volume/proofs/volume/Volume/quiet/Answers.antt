@@ -1,5 +1,5 @@
-use Rattle.std.proofs.Common.{◌≡◌, inr, refl, sym, ap, subst, ◌∙◌}
-use Rattle.ck_log.specs.Layout.{Layout, base_of}
+use Rattle.std.proofs.Common.{inr, sym, subst, ◌∙◌}
+use Rattle.ck_log.specs.Layout.{base_of}
 use Rattle.ck_model.specs.Standing.{world_on}
 use Rattle.ck_volume.specs.Device.{store_on}
 use Rattle.ck_volume.specs.Room.{answered_with}

@@ -1,4 +1,4 @@
-use Rattle.std.proofs.Common.{◌≡◌, refl}
+use Rattle.std.proofs.Common.{refl}
 use Rattle.ck_volume.proofs.VolumeLemmas.{reads-attempt, reads-goes, goes_all}
 use Rattle.ck_volume.proofs.volume.Volume.read.Goals as goal
 

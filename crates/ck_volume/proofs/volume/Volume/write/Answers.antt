@@ -1,4 +1,4 @@
-use Rattle.std.proofs.Common.{◌≡◌, refl, ap, subst, ◌∙◌}
+use Rattle.std.proofs.Common.{refl, ap, subst, ◌∙◌}
 use Rattle.ck_model.specs.declared.checkpoint.Limits.{Limits}
 use Rattle.ck_model.specs.Step.{changing}
 use Rattle.ck_volume.specs.Device.{store_on}
