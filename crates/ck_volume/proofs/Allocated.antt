@@ -1,6 +1,5 @@
 -- The data blocks in use are as many as the table names.
 use Rattle.std.proofs.Common.{◌≡◌, ℕ, ◌+◌, Bool, true, false, cond, T, ◌||◌, is_some, List, [], ◌∷◌, length, Some, nat_eq, refl, sym, ap, subst, ◌∙◌, ◌⊎◌, inl, inr, arith}
-use Rattle.std.specs.Bool.{⊤}
 use Rattle.std.specs.Ordering.{nat_cmp, eq_by_cmp, is_eq}
 use Rattle.std.specs.Cmp.{unsigned_tied}
 use Rattle.std.specs.List.{list_any}
@@ -23,11 +22,7 @@ use Rattle.ck_model.proofs.Rows.{head_of}
 use Rattle.ck_model.proofs.Filesets.{not_below}
 use Rattle.ck_alloc.specs.Blocks.{Allocation}
 use Rattle.ck_volume.specs.Allocating.{is_named, IsAllocated}
-
--- no number stands twice
-abbrev pub Distinct : List ℕ → Type 0
-Distinct [] = ⊤
-Distinct (x ∷ xs) = (list_any (nat_eq x) xs ≡ false) × Distinct xs
+use Rattle.ck_volume.specs.Placing.{AreDistinct}
 
 any_same : (x : ℕ) (xs : List ℕ) → list_any (eq_by_cmp nat_cmp x) xs ≡ list_any (nat_eq x) xs
 any_same x [] = refl
@@ -36,7 +31,7 @@ any_same x (y ∷ ys) = λ i. unsigned_tied x y i || any_same x ys i
 pub contains-listed : (x : ℕ) (xs : List ℕ) → set.contains (set.from_list {R = nat_cmp} xs) x ≡ list_any (nat_eq x) xs
 contains-listed x xs = set.contains-from_list nat_cmp_total xs x ∙ any_same x xs
 
-pub distinct_count : (xs : List ℕ) → Distinct xs → set.len (set.from_list {R = nat_cmp} xs) ≡ length xs
+pub distinct_count : (xs : List ℕ) → AreDistinct xs → set.len (set.from_list {R = nat_cmp} xs) ≡ length xs
 distinct_count [] h = set.len-empty nat_cmp
 distinct_count (x ∷ xs) h =
     set.len-insert nat_cmp_total (set.from_list xs) x
@@ -112,7 +107,7 @@ module _ (t : Table) (sound : IsSound t) where
       absurd (false≢true (ap is_some (sym (not_below entry_cmp_total entry_cmp_exact place es below) ∙ ap (λ p. map.find entry_cmp p es) same ∙ n.found)))
   none_again place s b es stand below sorted false h = refl
 
-  distinct : (es : List ((ℕ × Key) × Held)) → T (is_sorted entry_cmp es) → Stand es → Distinct (blocks_of es)
+  distinct : (es : List ((ℕ × Key) × Held)) → T (is_sorted entry_cmp es) → Stand es → AreDistinct (blocks_of es)
   distinct [] sorted stand = tt
   distinct ((place, Absent) ∷ es) sorted stand = let parts = head_of (below_all entry_cmp place es) (is_sorted entry_cmp es) sorted in distinct es parts.1 (λ p h found. stand p h (found_on (place, Absent) es p h parts.0 found))
   distinct ((place, Plain s small) ∷ es) sorted stand = let parts = head_of (below_all entry_cmp place es) (is_sorted entry_cmp es) sorted in distinct es parts.1 (λ p h found. stand p h (found_on (place, Plain s small) es p h parts.0 found))
@@ -123,7 +118,7 @@ module _ (t : Table) (sound : IsSound t) where
         distinct es parts.1 (λ p h found. stand p h (found_on (place, Extent s b) es p h parts.0 found)),
       )
 
-  pub extents_distinct : Distinct (extents_of t)
+  pub extents_distinct : AreDistinct (extents_of t)
   extents_distinct = distinct (map.entries t.entries) (entries_sorted t.entries) (λ place h found. map.get-entries t.entries place ∙ found)
 
   -- the blocks in use are as many as are named

@@ -1,30 +1,42 @@
 -- The calls that a volume has today.
-use Rattle.std.specs.Prelude.{◌≡◌, ◌≤◌, ◌+◌, ⊤, false, length}
+use Rattle.std.specs.Prelude.{◌≡◌, ◌≤◌, ⊤, false}
 use Rattle.ck_model.specs.declared.call.Call.{Call}
-use Rattle.ck_model.specs.declared.call.Call.TheVariants.{Make, Write, Read, Create, Ckpts, Mount, Umount, Cread, Info, Sync}
+use Rattle.ck_model.specs.declared.call.Call.TheVariants.{Make, Mkdir, Rm, Rmdir, Mv, Write, Fill, Trunc, Read, List as Ls, Stat, Create, Ckpts, Mount, Umount, Cread, Clist, Info, Sync}
+use Rattle.ck_model.specs.Changing.{file_limit}
 use Rattle.ck_model.specs.Name.{IsCheckpointName}
 
--- make, write, read, create without flags, ckpts, mount, umount, cread, info and sync, with places and lengths up to a
--- block, and writes that end within the first one
+-- all calls but remove, nodata, removable, restore, backup, full and create with flags; places and sizes are within the
+-- limit of a file's size
 abbrev pub IsBuilt : Call → Type 0
 IsBuilt (Make path) = ⊤
-IsBuilt (Write path at bytes) = at + length bytes ≤ 4096
-IsBuilt (Read path at len) = (at ≤ 4096) × (len ≤ 4096)
+IsBuilt (Mkdir path) = ⊤
+IsBuilt (Rm path) = ⊤
+IsBuilt (Rmdir path) = ⊤
+IsBuilt (Mv path new_path) = ⊤
+IsBuilt (Write path place bytes) = place ≤ file_limit
+IsBuilt (Fill path place len byte) = place ≤ file_limit
+IsBuilt (Trunc path size) = size ≤ file_limit
+IsBuilt (Read path place len) = place ≤ file_limit
+IsBuilt (Ls path) = ⊤
+IsBuilt (Stat path) = ⊤
 IsBuilt (Create name nodata removable) = (nodata ≡ false) × (removable ≡ false) × IsCheckpointName name
 IsBuilt Ckpts = ⊤
 IsBuilt (Mount letter name) = ⊤
 IsBuilt (Umount letter) = ⊤
-IsBuilt (Cread letter path at len) = (at ≤ 4096) × (len ≤ 4096)
+IsBuilt (Cread letter path place len) = place ≤ file_limit
+IsBuilt (Clist letter path) = ⊤
 IsBuilt Info = ⊤
 IsBuilt Sync = ⊤
 IsBuilt _ = ⊥
 
--- those of them that are answered without the device
+-- those of them that are answered without the device, and change no file
 abbrev pub IsQuiet : Call → Type 0
-IsQuiet (Make path) = ⊤
+IsQuiet (Ls path) = ⊤
+IsQuiet (Stat path) = ⊤
 IsQuiet (Create name nodata removable) = ⊤
 IsQuiet Ckpts = ⊤
 IsQuiet (Mount letter name) = ⊤
 IsQuiet (Umount letter) = ⊤
+IsQuiet (Clist letter path) = ⊤
 IsQuiet Info = ⊤
 IsQuiet _ = ⊥

@@ -1,91 +1,43 @@
-ghost use Rattle.std.specs.Prelude.{◌≡◌, ◌+◌, ◌≤◌, ℕ, [], ◌∷◌, length};
-ghost use Rattle.ck_model.specs.declared.key.Key.TheVariants.{Node};
-ghost use Rattle.ck_model.specs.declared.change.Change.TheVariants.{Put, Write};
-ghost use Rattle.ck_model.specs.declared.held.Small.TheVariants.{File};
+ghost use Rattle.std.specs.Prelude.{IfOk};
+ghost use Rattle.ck_tree.specs.Plan.{IsChanging};
 ghost use Rattle.ck_volume.specs.Files.{AreFiles};
-ghost use Rattle.ck_volume.specs.Writing.{write_items};
 ghost use Rattle.ck_volume.specs.Planning.{IsPlanned};
 
-use crate::making::LAST_STAMP;
 use crate::room::lack;
 use ck_alloc::Blocks;
-use ck_model::{Change, Key, Limits, Meta, Path, Reply, Small};
+use ck_model::{Call, Change, Limits, Meta, NoMemory, Reply};
 use ck_push::cost;
-use ck_tree::{file_at, size_at};
+use ck_tree::{TreeFault, plan};
+use std::alloc::Global;
 
-/// A write within the first block of a file.
-#[derive(Clone, Copy, Debug, PartialEq, Eq)]
-pub struct Plan {
-    /// The file's number.
-    pub node: u32,
-    /// Its size in bytes, before the write.
-    pub size: u64,
-    /// Where the write ends.
-    pub end: u64,
-}
-
-/// What a write comes to.
+/// What a call that changes files comes to.
 #[derive(Debug, Drop)]
 pub enum Planned {
     /// It is refused, or there is no room for it.
     Answered(Reply),
-    /// It has no bytes.
-    Passes,
-    Writes(Plan),
+    /// Its changes, for which there is room.
+    Changes(Vec<Change>),
 }
 
-impl Plan {
-    /// The node, which is put where the file grows, and the file's first block.
-    pub fn items(&self, block: u32) -> [Change; 2]
-        ensures { result ≡ Put (Node self.now.node) (File self.now.end) ∷ Write self.now.node 0 block ∷ [] }
-    {
-        [
-            Change::Put(Key::Node(self.node), Small::File(self.end)),
-            Change::Write(self.node, 0, block),
-        ]
-    }
-
-    /// Those of its items that are put.
-    pub fn put<'a>(&self, items: &'a [Change; 2]) -> &'a [Change]
-        ensures { (block : ℕ) → items.now ≡ Put (Node self.now.node) (File self.now.end) ∷ Write self.now.node 0 block ∷ []
-            → result.now ≡ write_items self.now.node block self.now.size self.now.end }
-    {
-        let all = &items[..];
-        if self.size < self.end { all } else { &all[1..] }
-    }
-}
-
-/// What a write of bytes that end within the first block of a file comes to. Nothing is written.
-pub fn plan_write<M: Meta>(
+/// What a call that changes files comes to. Nothing is written.
+pub fn plan_changes<M: Meta>(
+    alloc: Global,
     meta: &M,
     blocks: &Blocks,
     limits: Limits,
-    path: &Path,
-    at: u64,
-    bytes: &[u8],
-) -> Planned
+    call: &Call,
+) -> Result<Planned, NoMemory>
     requires files { AreFiles limits (M.table meta.now) blocks.now }
-    requires within { at + length bytes.now ≤ 4096 }
-    ensures { IsPlanned (M.table meta.now) path.now at bytes.now result }
+    requires changing { IsChanging call.now }
+    ensures { IfOk result (IsPlanned (M.table meta.now) call.now) }
 {
-    let node = match file_at(meta, 0, path.items()) {
-        Ok(node) => node,
-        Err(reply) => return Planned::Answered(reply),
+    let changes = match plan(alloc, meta, call) {
+        Ok(changes) => changes,
+        Err(TreeFault::NoMemory) => return Err(NoMemory),
+        Err(fault) => return Ok(Planned::Answered(Reply::from(fault))),
     };
-    if meta.counters().stamp == LAST_STAMP {
-        return Planned::Answered(Reply::Spent);
-    }
-    if bytes.is_empty() {
-        return Planned::Passes;
-    }
-    let plan = Plan {
-        node,
-        size: size_at(meta, 0, node),
-        end: at + bytes.len() as u64,
-    };
-    let items = plan.items(0);
-    match lack(meta, blocks, limits, &cost(meta, plan.put(&items))) {
-        Some(reply) => Planned::Answered(reply),
-        None => Planned::Writes(plan),
+    match lack(meta, blocks, limits, &cost(meta, &changes)) {
+        Some(reply) => Ok(Planned::Answered(reply)),
+        None => Ok(Planned::Changes(changes)),
     }
 }
