@@ -43,7 +43,8 @@ use Rattle.ck_table.specs.Adding.{new_id, new_fileset, with_added}
 use Rattle.ck_volume.specs.Freezing.{refusal_of, refused_or}
 use Rattle.ck_volume.specs.Plain.{IsPlainFileset, IsPlain, IsOurs}
 use Rattle.ck_volume.specs.Room.{has_room, lack_of_room, answered_with}
-use Rattle.ck_volume.proofs.Allocated.{Distinct, named_entry, extents_distinct}
+use Rattle.ck_volume.specs.Placing.{AreDistinct}
+use Rattle.ck_volume.proofs.Allocated.{named_entry, extents_distinct}
 use Rattle.ck_volume.proofs.Checkpoints.{keeps_itself, plain_live}
 use Rattle.ck_volume.proofs.Listed.{any_named-is, length-is}
 use Rattle.ck_volume.proofs.Rooms.{records-is, room-is}
@@ -92,7 +93,7 @@ none_of p (x ∷ xs) h =
       | false ↦ λ fails is. (fails, none_of p xs is)
     ] refl h
 
-apart : (xs : List ℕ) → Distinct xs → IsDistinct nat_eq xs
+apart : (xs : List ℕ) → AreDistinct xs → IsDistinct nat_eq xs
 unfolding IsDistinct
 apart [] h = tt
 apart (x ∷ xs) h = (none_of (nat_eq x) xs h.0, apart xs h.1)
