@@ -14,12 +14,9 @@ pub mod WorldAfter
 pub mod MadeLemmas
 pub mod NewBlocks
 pub mod ChangingLemmas
-pub mod MakeLemmas
+pub mod PlacingLemmas
 pub mod FilesKept
 pub mod Ordinary
-pub mod WriteLemmas
-pub mod PlanLemmas
-pub mod PlannedLemmas
 pub mod SafeLemmas
 pub mod CommittedLemmas
 pub mod GoesOnLemmas

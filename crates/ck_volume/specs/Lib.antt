@@ -9,10 +9,10 @@ pub mod Telling
 pub mod Mounting
 pub mod Freezing
 pub mod Files
-pub mod Making
 pub mod Recovering
 pub mod Safe
 pub mod Storing
+pub mod Placing
 pub mod Planning
 pub mod Committed
 pub mod Built

@@ -13,9 +13,9 @@ use Rattle.ck_volume.specs.Room.{has_room, answered_with}
 use Rattle.ck_volume.specs.declared.planning.Planned.{Planned}
 use Rattle.ck_volume.specs.declared.planning.Planned.TheVariants.{Answered, Changes}
 
--- it is answered at once, or it has these changes, for which there is room
+-- it is answered at once, or it has these changes, for which there is room and which write so many data blocks
 abbrev pub IsPlanned : Table → Call → Planned → Type 0
 IsPlanned t call (Answered reply) =
     (is_fault reply ≡ false) × ((store : Store) (mounts : Mounts) → let w = world_on store mounts t in changing w (changed_by w call) ≡ answered_with reply w)
-IsPlanned t call (Changes changes) =
-    IsPlan t call changes.items × (has_room t (write_count changes.items) (gains t changes.items - losses t changes.items) ≡ true)
+IsPlanned t call (Changes changes writes) =
+    IsPlan t call changes.items × (has_room t (write_count changes.items) (gains t changes.items - losses t changes.items) ≡ true) × (writes ≡ write_count changes.items)

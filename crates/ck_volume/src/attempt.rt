@@ -1,6 +1,7 @@
-ghost use Rattle.std.specs.Prelude.{◌≡◌, ◌+◌, ◌≤◌, false, IsTrue, IfOk, IfErr, OnOk, OnErr, length};
+ghost use Rattle.std.specs.Prelude.{◌≡◌, ◌-◌, ◌≤◌, true, false, IsTrue, IfOk, IfErr, OnOk, OnErr};
 ghost use Rattle.ck_model.specs.declared.call.Call.TheVariants.{Sync};
-ghost use Rattle.ck_model.specs.Changing.{file_limit, overwritten};
+ghost use Rattle.ck_model.specs.declared.reply.Reply.TheVariants.{Done};
+ghost use Rattle.ck_model.specs.Changing.{file_limit};
 ghost use Rattle.ck_model.specs.History.{is_fault};
 ghost use Rattle.ck_model.specs.Reporting.{range_read, checkpoint_read};
 ghost use Rattle.ck_model.specs.Standing.{world_on};
@@ -11,85 +12,80 @@ ghost use Rattle.ck_model.specs.World.{World, unmounted};
 ghost use Rattle.ck_volume.specs.Allocating.{KeepsBusy};
 ghost use Rattle.ck_volume.specs.Built.{IsBuilt, IsQuiet};
 ghost use Rattle.ck_volume.specs.Files.{AreFiles};
-ghost use Rattle.ck_volume.specs.Planning.{IsPlan};
-ghost use Rattle.ck_volume.specs.Room.{answered_with};
+ghost use Rattle.ck_push.specs.Growth.{gains, losses, write_count};
+ghost use Rattle.ck_tree.specs.Plan.{IsChanging, IsPlan, changed_by};
+ghost use Rattle.ck_volume.specs.Room.{answered_with, has_room};
 ghost use Rattle.ck_volume.specs.Telling.{limits_of};
 ghost use Rattle.ck_volume.specs.Volume.{disk_of, table_of, mounts_of, blocks_of, layout_of, length_of, broken_of, world_of, IsWhole, KeepsWorld, GoesOnOrBreaks, IsAttempt, no_memory};
 ghost use Rattle.ck_volume.specs.Writing.{IsWritingFault};
 
 use crate::freezing::create;
-use crate::making::make;
 use crate::mounting::{mount, umount};
-use crate::passing::pass;
-use crate::planning::{Plan, Planned, plan_write};
+use crate::planning::{Planned, plan_changes};
 use crate::reads::{cread, read};
 use crate::room::used;
 use crate::telling::{ckpts, info};
-use crate::writing::write_planned;
+use crate::writing::change_planned;
 use crate::{Fault, Volume};
 use ck_disk::Disk;
-use ck_model::{Call, NoMemory, Path, Reply};
+use ck_model::{Call, Change, NoMemory, Path, Reply};
 use std::alloc::Global;
 
 impl<D: Disk> Volume<D> {
-    /// Does a planned write, with a commit before it where no data block is free.
-    fn write_plan(
+    /// Makes a call's planned changes, with a commit before them where fewer data blocks are free
+    /// than they write.
+    fn change_planned(
         &mut self,
         alloc: Global,
-        plan: &Plan,
-        path: &Path,
-        at: u64,
-        bytes: &[u8],
-    ) -> Result<Reply, Fault>
+        call: &Call,
+        changes: &mut [Change],
+        writes: u32,
+    ) -> Result<(), Fault>
         requires whole { IsWhole (D.means (disk_of self.old)) self.old }
-        requires plan { IsPlan (table_of self.old) path.now at bytes.now plan.now }
-        requires within { at + length bytes.now ≤ 4096 }
+        requires changing { IsChanging call.now }
+        requires plan { IsPlan (table_of self.old) call.now changes.old }
+        requires room { has_room (table_of self.old) (write_count changes.old) (gains (table_of self.old) changes.old - losses (table_of self.old) changes.old) ≡ true }
+        requires writes { writes ≡ write_count changes.old }
         ensures attempt { IsAttempt (D.means (disk_of self.old)) (D.means (disk_of self.new)) self.old self.new }
         ensures goes_on { GoesOnOrBreaks (D.means (disk_of self.old)) (D.means (disk_of self.new)) self.old self.new result }
-        ensures ok { IfOk result (λ reply. IsTrue (D.means (disk_of self.old)).tells → let w = world_of (D.means (disk_of self.old)).shows self.old in
-            changing w (overwritten w path.now at bytes.now) ≡ answered_with reply (world_of (D.means (disk_of self.new)).shows self.new)) }
-        ensures ordinary { IfOk result (λ reply. is_fault reply ≡ false) }
+        ensures done { OnOk result (IsTrue (D.means (disk_of self.old)).tells → let w = world_of (D.means (disk_of self.old)).shows self.old in
+            changing w (changed_by w call.now) ≡ answered_with Done (world_of (D.means (disk_of self.new)).shows self.new)) }
         ensures err { OnErr result (IsTrue (D.means (disk_of self.old)).tells → world_of (D.means (disk_of self.new)).shows self.new ≡ world_of (D.means (disk_of self.old)).shows self.old) }
         ensures fault { IfErr result (IsWritingFault (D.means (disk_of self.old)) (D.means (disk_of self.new))) }
     {
-        self.free_block(alloc)?;
+        self.free_blocks(alloc, writes)?;
         let area = self.area();
         let limits = self.limits();
-        match write_planned(
+        change_planned(
             &mut self.slots,
             &mut self.blocks,
             limits,
             &mut self.disk,
             area,
-            plan,
-            path,
-            at,
-            bytes,
-        ) {
-            Ok(()) => Ok(Reply::Done),
-            Err(fault) => Err(fault),
-        }
+            call,
+            changes,
+        )
     }
 
-    fn write(&mut self, alloc: Global, path: &Path, at: u64, bytes: &[u8]) -> Result<Reply, Fault>
+    /// Does a call that changes files.
+    fn change(&mut self, alloc: Global, call: &Call) -> Result<Reply, Fault>
         requires whole { IsWhole (D.means (disk_of self.old)) self.old }
-        requires within { at + length bytes.now ≤ 4096 }
+        requires changing { IsChanging call.now }
         ensures attempt { IsAttempt (D.means (disk_of self.old)) (D.means (disk_of self.new)) self.old self.new }
         ensures goes_on { GoesOnOrBreaks (D.means (disk_of self.old)) (D.means (disk_of self.new)) self.old self.new result }
         ensures ok { IfOk result (λ reply. IsTrue (D.means (disk_of self.old)).tells → let w = world_of (D.means (disk_of self.old)).shows self.old in
-            changing w (overwritten w path.now at bytes.now) ≡ answered_with reply (world_of (D.means (disk_of self.new)).shows self.new)) }
+            changing w (changed_by w call.now) ≡ answered_with reply (world_of (D.means (disk_of self.new)).shows self.new)) }
         ensures ordinary { IfOk result (λ reply. is_fault reply ≡ false) }
         ensures err { OnErr result (IsTrue (D.means (disk_of self.old)).tells → world_of (D.means (disk_of self.new)).shows self.new ≡ world_of (D.means (disk_of self.old)).shows self.old) }
         ensures fault { IfErr result (IsWritingFault (D.means (disk_of self.old)) (D.means (disk_of self.new))) }
     {
         let limits = self.limits();
-        match plan_write(&self.slots, &self.blocks, limits, path, at, bytes) {
+        match plan_changes(alloc, &self.slots, &self.blocks, limits, call)? {
             Planned::Answered(reply) => Ok(reply),
-            Planned::Passes => {
-                pass(&mut self.slots, &mut self.blocks, limits);
+            Planned::Changes(mut changes, writes) => {
+                self.change_planned(alloc, call, &mut changes, writes)?;
                 Ok(Reply::Done)
             }
-            Planned::Writes(plan) => self.write_plan(alloc, &plan, path, at, bytes),
         }
     }
 
@@ -177,7 +173,6 @@ impl<D: Disk> Volume<D> {
     {
         let limits = self.limits();
         match call {
-            Call::Make(path) => Ok(make(&mut self.slots, &mut self.blocks, limits, path)),
             Call::Create(name, _, _) => Ok(create(&mut self.slots, limits, name, moment)),
             Call::Mount(letter, name) => mount(&self.slots, &mut self.mounts, actor, *letter, name),
             Call::Umount(letter) => Ok(umount(&mut self.mounts, actor, *letter)),
@@ -233,7 +228,14 @@ impl<D: Disk> Volume<D> {
             → KeepsWorld (D.means (disk_of self.new)) self.new (unmounted (world_of (D.means (disk_of self.new)).shows self.new))) }
     {
         match call {
-            Call::Write(path, at, bytes) => self.write(alloc, path, *at, bytes.items()),
+            Call::Make(_)
+            | Call::Mkdir(_)
+            | Call::Rm(_)
+            | Call::Rmdir(_)
+            | Call::Mv(_, _)
+            | Call::Write(_, _, _)
+            | Call::Fill(_, _, _, _)
+            | Call::Trunc(_, _) => self.change(alloc, call),
             Call::Read(path, at, len) => self.read(alloc, path, *at, *len),
             Call::Cread(letter, path, at, len) => {
                 self.cread(alloc, actor, *letter, path, *at, *len)

@@ -1,4 +1,4 @@
-ghost use Rattle.std.specs.Prelude.{◌≡◌, ◌≢◌, ◌+◌, ◌≤◌, ◌<◌, IsTrue, IfErr, OnOk};
+ghost use Rattle.std.specs.Prelude.{◌≡◌, ◌≢◌, ◌+◌, ◌≤◌, IsTrue, IfErr, OnOk};
 ghost use Rattle.std.specs.FinSet as set;
 ghost use Rattle.ck_alloc.specs.Blocks.{free_count};
 ghost use Rattle.ck_model.specs.World.{World, unmounted};
@@ -64,20 +64,20 @@ impl<D: Disk> Volume<D> {
         }
     }
 
-    /// Commits where no data block is free, so that one is: a data block is in use, pending or
-    /// free, and one isn't in use.
-    pub(crate) fn free_block(&mut self, alloc: Global) -> Result<(), Fault>
+    /// Commits where fewer data blocks are free, so that so many are: those that aren't in use are
+    /// pending or free.
+    pub(crate) fn free_blocks(&mut self, alloc: Global, count: u32) -> Result<(), Fault>
         requires whole { IsWhole (D.means (disk_of self.old)) self.old }
-        requires room { extent_count (table_of self.old) + 1 ≤ (table_of self.old).blocks }
+        requires room { extent_count (table_of self.old) + count ≤ (table_of self.old).blocks }
         ensures attempt { IsAttempt (D.means (disk_of self.old)) (D.means (disk_of self.new)) self.old self.new }
         ensures goes_on { GoesOnOrBreaks (D.means (disk_of self.old)) (D.means (disk_of self.new)) self.old self.new result }
-        ensures free { OnOk result (0 < free_count (blocks_of self.new)) }
+        ensures free { OnOk result (count ≤ free_count (blocks_of self.new)) }
         ensures world { IsTrue (D.means (disk_of self.old)).tells → world_of (D.means (disk_of self.new)).shows self.new ≡ world_of (D.means (disk_of self.old)).shows self.old }
         ensures table { table_of self.new ≡ table_of self.old }
         ensures mounts { mounts_of self.new ≡ mounts_of self.old }
         ensures fault { IfErr result (IsWritingFault (D.means (disk_of self.old)) (D.means (disk_of self.new))) }
     {
-        if self.blocks.free() > 0 {
+        if self.blocks.free() >= count {
             return Ok(());
         }
         self.commit_table(alloc)

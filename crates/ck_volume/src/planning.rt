@@ -1,5 +1,8 @@
-ghost use Rattle.std.specs.Prelude.{IfOk};
+ghost use Rattle.std.specs.Prelude.{◌≡◌, ◌≢◌, IfOk};
+ghost use Rattle.ck_tree.specs.declared.fault.TreeFault.TheVariants as fault;
+ghost use Rattle.ck_tree.specs.Faults.{reply_of};
 ghost use Rattle.ck_tree.specs.Plan.{IsChanging};
+ghost use Rattle.ck_volume.specs.declared.planning.Planned.TheVariants.{Answered};
 ghost use Rattle.ck_volume.specs.Files.{AreFiles};
 ghost use Rattle.ck_volume.specs.Planning.{IsPlanned};
 
@@ -15,8 +18,18 @@ use std::alloc::Global;
 pub enum Planned {
     /// It is refused, or there is no room for it.
     Answered(Reply),
-    /// Its changes, for which there is room.
-    Changes(Vec<Change>),
+    /// Its changes, for which there is room, and how many data blocks they write.
+    Changes(Vec<Change>, u32),
+}
+
+/// What a refusal comes to; want of memory is no refusal.
+fn refused(why: TreeFault) -> Result<Planned, NoMemory>
+    ensures { IfOk result (λ planned. (why ≢ fault.NoMemory) × (planned ≡ Answered (reply_of why))) }
+{
+    if why == TreeFault::NoMemory {
+        return Err(NoMemory);
+    }
+    Ok(Planned::Answered(Reply::from(why)))
 }
 
 /// What a call that changes files comes to. Nothing is written.
@@ -33,11 +46,11 @@ pub fn plan_changes<M: Meta>(
 {
     let changes = match plan(alloc, meta, call) {
         Ok(changes) => changes,
-        Err(TreeFault::NoMemory) => return Err(NoMemory),
-        Err(fault) => return Ok(Planned::Answered(Reply::from(fault))),
+        Err(fault) => return refused(fault),
     };
-    match lack(meta, blocks, limits, &cost(meta, &changes)) {
+    let cost = cost(meta, &changes);
+    match lack(meta, blocks, limits, &cost) {
         Some(reply) => Ok(Planned::Answered(reply)),
-        None => Ok(Planned::Changes(changes)),
+        None => Ok(Planned::Changes(changes, cost.blocks)),
     }
 }
