@@ -18,8 +18,8 @@ ghost use Rattle.ck_volume.specs.Volume.{disk_of, table_of, mounts_of, blocks_of
 ghost use Rattle.ck_volume.specs.Writing.{IsWritingFault};
 
 use crate::freezing::create;
-use crate::making::make;
 use crate::mounting::{mount, umount};
+use crate::names::{cls, ls, stat};
 use crate::passing::pass;
 use crate::planning::{Plan, Planned, plan_write};
 use crate::reads::{cread, read};
@@ -177,7 +177,11 @@ impl<D: Disk> Volume<D> {
     {
         let limits = self.limits();
         match call {
-            Call::Make(path) => Ok(make(&mut self.slots, &mut self.blocks, limits, path)),
+            Call::List(path) => ls(alloc, &self.slots, path),
+            Call::Stat(path) => stat(alloc, &self.slots, path),
+            Call::Clist(letter, path) => {
+                cls(alloc, &self.slots, &self.mounts, actor, *letter, path)
+            }
             Call::Create(name, _, _) => Ok(create(&mut self.slots, limits, name, moment)),
             Call::Mount(letter, name) => mount(&self.slots, &mut self.mounts, actor, *letter, name),
             Call::Umount(letter) => Ok(umount(&mut self.mounts, actor, *letter)),

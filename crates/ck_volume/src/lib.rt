@@ -11,6 +11,7 @@ mod format;
 mod freezing;
 mod making;
 mod mounting;
+mod names;
 mod open;
 mod passing;
 mod planning;
