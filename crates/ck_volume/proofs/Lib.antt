@@ -17,6 +17,7 @@ pub mod ChangingLemmas
 pub mod MakeLemmas
 pub mod FilesKept
 pub mod Ordinary
+pub mod NamesLemmas
 pub mod WriteLemmas
 pub mod PlanLemmas
 pub mod PlannedLemmas
