@@ -17,6 +17,7 @@ pub mod ChangingLemmas
 pub mod PlacingLemmas
 pub mod FilesKept
 pub mod Ordinary
+pub mod NamesLemmas
 pub mod SafeLemmas
 pub mod CommittedLemmas
 pub mod GoesOnLemmas

@@ -21,6 +21,7 @@ ghost use Rattle.ck_volume.specs.Writing.{IsWritingFault};
 
 use crate::freezing::create;
 use crate::mounting::{mount, umount};
+use crate::names::{cls, ls, stat};
 use crate::planning::{Planned, plan_changes};
 use crate::reads::{cread, read};
 use crate::room::used;
@@ -173,6 +174,11 @@ impl<D: Disk> Volume<D> {
     {
         let limits = self.limits();
         match call {
+            Call::List(path) => ls(alloc, &self.slots, path),
+            Call::Stat(path) => stat(alloc, &self.slots, path),
+            Call::Clist(letter, path) => {
+                cls(alloc, &self.slots, &self.mounts, actor, *letter, path)
+            }
             Call::Create(name, _, _) => Ok(create(&mut self.slots, limits, name, moment)),
             Call::Mount(letter, name) => mount(&self.slots, &mut self.mounts, actor, *letter, name),
             Call::Umount(letter) => Ok(umount(&mut self.mounts, actor, *letter)),

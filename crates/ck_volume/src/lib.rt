@@ -10,6 +10,7 @@ mod fault;
 mod format;
 mod freezing;
 mod mounting;
+mod names;
 mod open;
 mod planning;
 mod reading;

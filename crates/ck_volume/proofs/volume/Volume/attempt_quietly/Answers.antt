@@ -10,6 +10,27 @@ use Rattle.ck_volume.specs.Volume.{table_of, mounts_of}
 use Rattle.ck_volume.proofs.Ordinary.{if_ok_map, no_store}
 use Rattle.ck_volume.proofs.volume.Volume.attempt_quietly.Goals as goal
 
+pub returns-in-List-clause-ok : goal.returns-in-List-clause-ok
+returns-in-List-clause-ok g c =
+    let v = c.args.self.now in
+    if_ok_map _ _ c.ls.result
+    (λ reply ok store texts. ap (λ (x : Call). step texts (world_on store (mounts_of v) (table_of v)) c.args.actor c.args.moment x) c.in-List.is ∙ ok store (mounts_of v))
+    c.ls.ensures.reply
+
+pub returns-in-Stat-clause-ok : goal.returns-in-Stat-clause-ok
+returns-in-Stat-clause-ok g c =
+    let v = c.args.self.now in
+    if_ok_map _ _ c.stat.result
+    (λ reply ok store texts. ap (λ (x : Call). step texts (world_on store (mounts_of v) (table_of v)) c.args.actor c.args.moment x) c.in-Stat.is ∙ ok store (mounts_of v))
+    c.stat.ensures.reply
+
+pub returns-in-Clist-clause-ok : goal.returns-in-Clist-clause-ok
+returns-in-Clist-clause-ok g c =
+    let v = c.args.self.now in
+    if_ok_map _ _ c.cls.result
+    (λ reply ok store texts. ap (λ (x : Call). step texts (world_on store (mounts_of v) (table_of v)) c.args.actor c.args.moment x) c.in-Clist.is ∙ ok store)
+    c.cls.ensures.reply
+
 pub returns-in-Mount-clause-ok : goal.returns-in-Mount-clause-ok
 returns-in-Mount-clause-ok g c =
     let v = c.args.self.now in
