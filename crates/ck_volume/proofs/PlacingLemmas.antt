@@ -42,14 +42,15 @@ use Rattle.ck_tree.specs.declared.fault.TreeFault.{TreeFault}
 use Rattle.ck_tree.specs.declared.fault.TreeFault.TheVariants.{NotFound, NotDir, IsDir as IsDirectory, Exists as Existing, NotEmpty as NotEmptied, Root as AtRoot, TooBig as TooLong, Spent as AllSpent, NoMemory}
 use Rattle.ck_tree.specs.Faults.{reply_of}
 use Rattle.ck_tree.specs.Plan.{IsPlan, IsRefusal, Differ, MayBeMade, changed_by, block_by, numbers_after, world_after, with_changes as planned_cells}
-use Rattle.ck_volume.specs.Allocating.{is_taken}
+use Rattle.ck_alloc.specs.Blocks.{Allocation}
+use Rattle.ck_volume.specs.Allocating.{is_named, is_taken, IsAllocatedBut}
 use Rattle.ck_volume.specs.Changing.{raised, IsRaised, changed_all, with_changes, MayChange, AllApart, MayChangeAll, written_by}
-use Rattle.ck_volume.specs.Placing.{with_places, AreDistinct, AreHeld}
+use Rattle.ck_volume.specs.Placing.{with_places, AreDistinct, ArePlaced, AreHeld}
 use Rattle.ck_volume.specs.Plain.{IsOurs}
 use Rattle.ck_volume.specs.Room.{has_room, lack_of_room, answered_with}
 use Rattle.ck_volume.proofs.Stands.{stands}
 use Rattle.ck_volume.proofs.Worlds.{SameNamed}
-use Rattle.ck_volume.proofs.UseLemmas.{extent_is, is-named}
+use Rattle.ck_volume.proofs.UseLemmas.{extent_is, is-named, named-is}
 use Rattle.ck_volume.proofs.ChangingLemmas.{changing-full, changing-fits}
 
 -- ---- what doesn't depend on the data blocks
@@ -547,3 +548,41 @@ ordinary_refusal AtRoot some = refl
 ordinary_refusal (TooLong size limit) some = refl
 ordinary_refusal AllSpent some = refl
 ordinary_refusal NoMemory some = absurd (some refl)
+
+-- ---- the changes, once their data blocks are stored
+
+are_places : (t : Table) (places : List ℕ) → AllByRecursion (λ place. place < t.blocks) places → AllByRecursion (λ place. is_named t place ≡ false) places → AllByRecursion (IsPlace t t.blocks) places
+are_places t [] within unnamed = tt
+are_places t (place ∷ places) within unnamed = ((within.0, λ named. false≢true (sym unnamed.0 ∙ named-is t place named)), are_places t places within.1 unnamed.1)
+
+module _ (t : Table) (c : Call) (changes new : List Change) (after : Allocation) (ours : IsOurs t) (plan : IsPlan t c changes) (placed : ArePlaced t after changes new) where
+  are : AllByRecursion (IsPlace t t.blocks) placed.places
+  are = are_places t placed.places placed.within placed.unnamed
+
+  most : t.blocks ≤ 2 ^ 31
+  most = let sized = ours.sized.blocks in omega (arith, sized)
+
+  pub stored_first : deletions_first new ≡ true
+  stored_first = ap deletions_first placed.are ∙ placed_first changes placed.places ∙ plan.first
+
+  pub stored_room : has_room t (write_count changes) (gains t changes - losses t changes) ≡ true → gains t new - losses t new ≤ spare_count t
+  stored_room room =
+      let same : gains t new - losses t new ≡ gains t changes - losses t changes =
+      ap (λ items. gains t items - losses t items) placed.are ∙ (λ i. placed_gains t changes placed.places i - placed_losses t changes placed.places i) in
+      subst (λ n. n ≤ spare_count t) (sym same) (room_records t (write_count changes) (gains t changes - losses t changes) room)
+
+  pub stored_may : MayChangeAll (raised t (numbers_after c t.counters) t.blocks) new t.counters.stamp
+  stored_may = subst (λ items. MayChangeAll (raised t (numbers_after c t.counters) t.blocks) items t.counters.stamp) (sym placed.are)
+      (planned_may (λ block. []) map.empty t c changes ours plan placed.places t.blocks placed.many placed.distinct are most)
+
+  pub stored_allocated : (stamp : ℕ) → IsAllocatedBut (written_by new stamp) t after
+  stored_allocated stamp = subst (λ taken. IsAllocatedBut taken t after) (sym (ap (λ items. written_by items stamp) placed.are ∙ placed_blocks changes placed.places stamp placed.many)) placed.allocated
+
+  -- they lead to the model's world
+  pub stored-done : (store other : Store) (mounts : Mounts) → SameNamed t store other → AreHeld (block_by (world_on store mounts t) c) other new
+      → has_room t (write_count changes) (gains t changes - losses t changes) ≡ true → (u : Table) → u ≡ changed_all (raised t (numbers_after c t.counters) t.blocks) new t.counters.stamp
+      → changing (world_on store mounts t) (changed_by (world_on store mounts t) c) ≡ answered_with Done (world_on other mounts u)
+  stored-done store other mounts same held room u is =
+      planned-fits store mounts t c changes ours plan other placed.places t.blocks placed.many placed.distinct are (omega arith) most same
+      (subst (AreHeld (block_by (world_on store mounts t) c) other) placed.are held) room refl u
+      (is ∙ ap (λ items. changed_all (raised t (numbers_after c t.counters) t.blocks) items t.counters.stamp) placed.are)

@@ -253,9 +253,9 @@ module _ {D : Type 0} where
         kept = λ told w keeps. inr (subst (λ w. KeepsWorld new after (unmounted w)) (commit-world told) (commit-committed told w keeps));
       }
 
--- a free block after a commit
-pub settled_free : (t : Table) (blocks later : Allocation) → IsOurs t → IsAllocated t blocks → extent_count t + 1 ≤ t.blocks → later ≡ record blocks { pending = set.empty } → 0 < free_count later
-settled_free t blocks later ours allocated room settled =
+-- the free blocks after a commit
+pub settled_free : (t : Table) (blocks later : Allocation) (count : ℕ) → IsOurs t → IsAllocated t blocks → extent_count t + count ≤ t.blocks → later ≡ record blocks { pending = set.empty } → count ≤ free_count later
+settled_free t blocks later count ours allocated room settled =
     let used = used_count t ours.sound blocks allocated in
     let none : set.len later.pending ≡ 0 = ap (λ (a : Allocation). set.len a.pending) settled ∙ set.len-empty nat_cmp in
     let total : later.total ≡ blocks.total = ap (λ (a : Allocation). a.total) settled in

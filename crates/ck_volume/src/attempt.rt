@@ -1,6 +1,5 @@
 ghost use Rattle.std.specs.Prelude.{◌≡◌, ◌-◌, ◌≤◌, true, false, IsTrue, IfOk, IfErr, OnOk, OnErr};
 ghost use Rattle.ck_model.specs.declared.call.Call.TheVariants.{Sync};
-ghost use Rattle.ck_model.specs.declared.reply.Reply.TheVariants.{Done};
 ghost use Rattle.ck_model.specs.Changing.{file_limit};
 ghost use Rattle.ck_model.specs.History.{is_fault};
 ghost use Rattle.ck_model.specs.Reporting.{range_read, checkpoint_read};
@@ -26,7 +25,7 @@ use crate::planning::{Planned, plan_changes};
 use crate::reads::{cread, read};
 use crate::room::used;
 use crate::telling::{ckpts, info};
-use crate::writing::change_planned;
+use crate::writing::apply_planned;
 use crate::{Fault, Volume};
 use ck_disk::Disk;
 use ck_model::{Call, Change, NoMemory, Path, Reply};
@@ -41,7 +40,7 @@ impl<D: Disk> Volume<D> {
         call: &Call,
         changes: &mut [Change],
         writes: u32,
-    ) -> Result<(), Fault>
+    ) -> Result<Reply, Fault>
         requires whole { IsWhole (D.means (disk_of self.old)) self.old }
         requires changing { IsChanging call.now }
         requires plan { IsPlan (table_of self.old) call.now changes.old }
@@ -49,15 +48,16 @@ impl<D: Disk> Volume<D> {
         requires writes { writes ≡ write_count changes.old }
         ensures attempt { IsAttempt (D.means (disk_of self.old)) (D.means (disk_of self.new)) self.old self.new }
         ensures goes_on { GoesOnOrBreaks (D.means (disk_of self.old)) (D.means (disk_of self.new)) self.old self.new result }
-        ensures done { OnOk result (IsTrue (D.means (disk_of self.old)).tells → let w = world_of (D.means (disk_of self.old)).shows self.old in
-            changing w (changed_by w call.now) ≡ answered_with Done (world_of (D.means (disk_of self.new)).shows self.new)) }
+        ensures ok { IfOk result (λ reply. IsTrue (D.means (disk_of self.old)).tells → let w = world_of (D.means (disk_of self.old)).shows self.old in
+            changing w (changed_by w call.now) ≡ answered_with reply (world_of (D.means (disk_of self.new)).shows self.new)) }
+        ensures ordinary { IfOk result (λ reply. is_fault reply ≡ false) }
         ensures err { OnErr result (IsTrue (D.means (disk_of self.old)).tells → world_of (D.means (disk_of self.new)).shows self.new ≡ world_of (D.means (disk_of self.old)).shows self.old) }
         ensures fault { IfErr result (IsWritingFault (D.means (disk_of self.old)) (D.means (disk_of self.new))) }
     {
         self.free_blocks(alloc, writes)?;
         let area = self.area();
         let limits = self.limits();
-        change_planned(
+        match apply_planned(
             &mut self.slots,
             &mut self.blocks,
             limits,
@@ -65,7 +65,10 @@ impl<D: Disk> Volume<D> {
             area,
             call,
             changes,
-        )
+        ) {
+            Ok(()) => Ok(Reply::Done),
+            Err(fault) => Err(fault),
+        }
     }
 
     /// Does a call that changes files.
@@ -84,8 +87,7 @@ impl<D: Disk> Volume<D> {
         match plan_changes(alloc, &self.slots, &self.blocks, limits, call)? {
             Planned::Answered(reply) => Ok(reply),
             Planned::Changes(mut changes, writes) => {
-                self.change_planned(alloc, call, &mut changes, writes)?;
-                Ok(Reply::Done)
+                self.change_planned(alloc, call, &mut changes, writes)
             }
         }
     }

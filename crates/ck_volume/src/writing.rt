@@ -40,7 +40,7 @@ fn numbers_after(call: &Call, next: Counters) -> Counters
 
 /// Makes a call's planned changes. The data blocks that they write are stored first, in free
 /// places; a failure leaves the table as it is.
-pub fn change_planned<M: Meta, D: Disk>(
+pub fn apply_planned<M: Meta, D: Disk>(
     meta: &mut M,
     blocks: &mut Blocks,
     limits: Limits,
