@@ -16,9 +16,9 @@ use Rattle.ck_volume.specs.Device.{store_on}
 use Rattle.ck_volume.specs.Plain.{IsOurs}
 use Rattle.ck_volume.specs.Reading.{OnlyReads}
 use Rattle.ck_volume.specs.Recovering.{Recovers}
-use Rattle.ck_volume.specs.Storing.{OnlyStores}
+use Rattle.ck_volume.specs.Storing.{LeavesTorn, OnlyStores}
 use Rattle.ck_volume.proofs.Worlds.{world_same}
-use Rattle.ck_volume.proofs.SafeLemmas.{safe-recovers, stores-safe, reads-safe, commit-recovers, commit-safe, kept_there}
+use Rattle.ck_volume.proofs.SafeLemmas.{safe-recovers, stores-safe, torn-recovers, reads-safe, commit-recovers, commit-safe, kept_there}
 
 module _ (layout : Layout) (blocks : Allocation) (m : Meaning) (w : World) (keeps : Keeps layout blocks m w) where
   -- each image opens to the world
@@ -49,6 +49,12 @@ module _ (layout : Layout) (blocks : Allocation) (m : Meaning) (w : World) (keep
           world = world_same keeps.table map.empty (store_on new.shows base) (store_on m.shows base) (λ block named. sym (kept_there base blocks m.shows new.shows block (stores.shows told) (c.busy block named))) ∙ c.world;
         };
       }
+
+  -- at every moment of that each image opens to it
+  pub keeps-torn : (image : Image) → LeavesTorn (base_of layout.records) blocks m image → Recovers image w
+  keeps-torn image from =
+      let c = keeps.committed in
+      subst (Recovers image) c.world (torn-recovers layout keeps.table blocks m c.busy c.safe image from)
 
   pub keeps-reads : (new : Meaning) → OnlyReads m new → Keeps layout blocks new w
   keeps-reads new reads =
@@ -115,6 +121,19 @@ leaves_step old mid new P ran step all = record {
   later = omega (arith, step.later, ran.later);
   each = λ c left. ⊎_elim (λ (was : mid.left_since old.moment c). ran.each c was) (λ (now : new.may_leave c). all c now) (step.nothing_else old.moment c ran.later left);
   before = λ t c early left. ⊎_elim (λ (was : mid.left_since t c). ran.before t c early was) (λ (now : new.may_leave c). inr (all c now)) (step.nothing_else t c (omega (arith, early, ran.later)) left);
+}
+
+-- data blocks stored in free places, where each image that they may leave has it
+pub leaves_stores : (base : ℕ) (blocks : Allocation) (old mid new : Meaning) (P : Image → Type 0) → LeavesOnly old mid P → OnlyStores base blocks mid new → ((c : Image) → LeavesTorn base blocks mid c → P c)
+    → LeavesOnly old new P
+leaves_stores base blocks old mid new P ran stores all = record {
+  size = stores.size ∙ ran.size;
+  tells = stores.tells ∙ ran.tells;
+  reads = omega (arith, stores.reads, ran.reads);
+  writes = omega (arith, stores.writes, ran.writes);
+  later = omega (arith, stores.later, ran.later);
+  each = λ c left. ⊎_elim (λ (was : mid.left_since old.moment c). ran.each c was) (λ (now : LeavesTorn base blocks mid c). all c now) (stores.nothing_else old.moment c ran.later left);
+  before = λ t c early left. ⊎_elim (λ (was : mid.left_since t c). ran.before t c early was) (λ (now : LeavesTorn base blocks mid c). inr (all c now)) (stores.nothing_else t c (omega (arith, early, ran.later)) left);
 }
 
 -- the images now are among those

@@ -7,8 +7,8 @@ use Rattle.ck_model.specs.World.{World}
 use Rattle.ck_volume.specs.Allocating.{KeepsBusy}
 use Rattle.ck_volume.specs.Committed.{Keeps, OpensToEither}
 use Rattle.ck_volume.specs.Reading.{OnlyReads}
-use Rattle.ck_volume.specs.Storing.{OnlyStores}
-use Rattle.ck_volume.proofs.CommittedLemmas.{keeps-recovers, keeps-busy, keeps-stores, keeps-reads, leaves_start, leaves_step}
+use Rattle.ck_volume.specs.Storing.{LeavesTorn, OnlyStores}
+use Rattle.ck_volume.proofs.CommittedLemmas.{keeps-recovers, keeps-busy, keeps-stores, keeps-torn, keeps-reads, leaves_start, leaves_step, leaves_stores}
 
 -- either of two worlds is kept
 abbrev pub KeepsEither : Layout → Allocation → Meaning → World → World → Type 0
@@ -50,3 +50,13 @@ module _ (a b : World) where
   -- where a further call of the device leaves one of the two
   pub leaves_either_step : (layout : Layout) (blocks : Allocation) (old mid new : Meaning) → LeavesOnly old mid (OpensToEither a b) → Step mid new → KeepsEither layout blocks new a b → LeavesOnly old new (OpensToEither a b)
   leaves_either_step layout blocks old mid new ran step either = leaves_step old mid new (OpensToEither a b) ran step (either_recovers layout blocks new either)
+
+  -- where data blocks are stored in free places
+  pub leaves_either_stores : (layout : Layout) (blocks : Allocation) (old mid new : Meaning) → LeavesOnly old mid (OpensToEither a b) → OnlyStores (base_of layout.records) blocks mid new → KeepsEither layout blocks mid a b
+      → LeavesOnly old new (OpensToEither a b)
+  leaves_either_stores layout blocks old mid new ran stores either =
+      leaves_stores (base_of layout.records) blocks old mid new (OpensToEither a b) ran stores (λ image from.
+      ⊎_elim
+      (λ (keeps : Keeps layout blocks mid a). inl (keeps-torn layout blocks mid a keeps image from))
+      (λ (keeps : Keeps layout blocks mid b). inr (keeps-torn layout blocks mid b keeps image from))
+      either)

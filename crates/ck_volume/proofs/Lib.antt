@@ -18,6 +18,8 @@ pub mod PlacingLemmas
 pub mod FilesKept
 pub mod Ordinary
 pub mod NamesLemmas
+pub mod StoringLemmas
+pub mod PlaceLemmas
 pub mod SafeLemmas
 pub mod CommittedLemmas
 pub mod GoesOnLemmas

@@ -1,5 +1,5 @@
 -- A safe table: every image that a crash may leave opens to the world that it stands for.
-use Rattle.std.proofs.Common.{◌≡◌, ◌≢◌, ◌⊎◌, inl, inr, ⊎_elim, ℕ, ◌+◌, ◌-◌, ◌*◌, ◌≤◌, ◌||◌, Bool, true, false, not, None, IsTrue, [], length, get_or, if◌then◌else◌, refl, sym, ap, subst, ◌∙◌, arith, get_or-set_other, length-set}
+use Rattle.std.proofs.Common.{◌≡◌, ◌≢◌, ◌⊎◌, inl, inr, ⊎_elim, ℕ, ◌+◌, ◌-◌, ◌*◌, ◌≤◌, ◌||◌, Bool, true, false, not, None, IsTrue, List, [], set, length, get_or, if◌then◌else◌, refl, sym, ap, subst, ◌∙◌, arith, get_or-set_other, length-set}
 use mathlib.Core.Bool.{false≢true}
 use Rattle.std.specs.FinMap as map
 use Rattle.ck_disk.specs.Disk.{Image, Meaning, Agrees, Outside, Lawful, LeavesOnly, IsSynced}
@@ -20,7 +20,8 @@ use Rattle.ck_volume.specs.Plain.{IsOurs}
 use Rattle.ck_volume.specs.Reading.{OnlyReads}
 use Rattle.ck_volume.specs.Recovering.{Opens, BadFormat, world_in, unless_damaged, recovery_of, FindsBy, Recovers}
 use Rattle.ck_volume.specs.Safe.{IsNamedAt, HoldsTable, IsSafe}
-use Rattle.ck_volume.specs.Storing.{IsStored, StoredOrSame, OnlyStores}
+use Rattle.ck_volume.specs.Storing.{StoredOrSame, LeavesTorn, OnlyStores}
+use Rattle.ck_volume.proofs.StoringLemmas.{stored-keeps}
 use Rattle.ck_volume.proofs.Worlds.{SameNamed, world_same}
 
 -- the data blocks stand behind the header and the gate
@@ -79,38 +80,32 @@ busy_apart blocks block named free busy same =
 -- the image keeps what a busy place has
 pub kept_there : (base : ℕ) (blocks : Allocation) (d c : Image) (block : ℕ) → StoredOrSame base blocks d c → is_busy blocks block ≡ true → get_or c (base + block) [] ≡ get_or d (base + block) []
 kept_there base blocks d c block stored busy =
-    ⊎_elim
-    (λ (same : c ≡ d). ap (λ (x : Image). get_or x (base + block) []) same)
-    (λ (s : IsStored base blocks d c).
-    let apart : base + block ≢ base + s.block = λ same. busy_apart blocks s.block block s.free busy (omega arith) in
-    ap (λ (x : Image). get_or x (base + block) []) s.is ∙ get_or-set_other d (base + s.block) (base + block) s.bytes [] apart)
-    stored
+    stored-keeps base blocks (λ x. get_or x (base + block) [] ≡ get_or d (base + block) []) (λ x other bytes free same.
+    let apart : base + block ≢ base + other = λ at. busy_apart blocks other block free busy (omega arith) in
+    get_or-set_other x (base + other) (base + block) bytes [] apart ∙ same)
+    d c stored refl
 
-kept_size : (base : ℕ) (blocks : Allocation) (d c : Image) → StoredOrSame base blocks d c → length c ≡ length d
+pub kept_size : (base : ℕ) (blocks : Allocation) (d c : Image) → StoredOrSame base blocks d c → length c ≡ length d
 kept_size base blocks d c stored =
-    ⊎_elim
-    (λ (same : c ≡ d). ap length same)
-    (λ (s : IsStored base blocks d c). ap length s.is ∙ length-set d (base + s.block) s.bytes)
-    stored
+    stored-keeps base blocks (λ x. length x ≡ length d) (λ x block bytes free same. length-set x (base + block) bytes ∙ same) d c stored refl
 
 -- the table stays
-kept_table : (layout : Layout) (t : Table) (blocks : Allocation) (d c : Image) → StoredOrSame (base_of layout.records) blocks d c → HoldsTable layout t d → HoldsTable layout t c
-kept_table layout t blocks d c stored holds =
-    ⊎_elim
-    (λ (same : c ≡ d). subst (HoldsTable layout t) (sym same) holds)
-    (λ (s : IsStored (base_of layout.records) blocks d c).
-    let at = base_of layout.records + s.block in
-    let high : 2 ≤ at = omega (arith, base_high layout.records) in
-    let low : base_of layout.records ≤ at = omega arith in
-    record {
-      region = ap recovered_region s.is ∙ recovered_region-set d at s.bytes high ∙ holds.region;
-      area = holds.area;
-      slots = subst (λ blocks. AreSlots blocks holds.area) (sym (ap (table_on layout) s.is ∙ table_on-set layout d at s.bytes low)) holds.slots;
-      built = holds.built;
-      undamaged = holds.undamaged;
-      table = holds.table;
-    })
-    stored
+pub kept_table : (layout : Layout) (t : Table) (blocks : Allocation) (d c : Image) → StoredOrSame (base_of layout.records) blocks d c → HoldsTable layout t d → HoldsTable layout t c
+kept_table layout t blocks d c stored = stored-keeps (base_of layout.records) blocks (HoldsTable layout t) kept_one d c stored
+  where
+    kept_one : (x : Image) (block : ℕ) (bytes : List ℕ) → IsFree blocks block → HoldsTable layout t x → HoldsTable layout t (set x (base_of layout.records + block) bytes)
+    kept_one x block bytes free holds =
+        let at = base_of layout.records + block in
+        let high : 2 ≤ at = omega (arith, base_high layout.records) in
+        let low : base_of layout.records ≤ at = omega arith in
+        record {
+          region = recovered_region-set x at bytes high ∙ holds.region;
+          area = holds.area;
+          slots = subst (λ blocks. AreSlots blocks holds.area) (sym (table_on-set layout x at bytes low)) holds.slots;
+          built = holds.built;
+          undamaged = holds.undamaged;
+          table = holds.table;
+        }
 
 -- a store in a free place keeps it safe
 pub stores-safe : (layout : Layout) (t : Table) (blocks : Allocation) (old new : Meaning) → IsTrue old.tells → ((block : ℕ) → is_named t block ≡ true → is_busy blocks block ≡ true)
@@ -129,6 +124,21 @@ stores-safe layout t blocks old new told busy stores safe = record {
             ap (λ (k : ℕ). get_or image k []) at.place ∙ same ∙ sym (ap (λ (k : ℕ). get_or new.shows k []) at.place);
       };
 }
+
+-- and at every moment of it
+pub torn-recovers : (layout : Layout) (t : Table) (blocks : Allocation) (m : Meaning) → ((block : ℕ) → is_named t block ≡ true → is_busy blocks block ≡ true) → IsSafe layout t m
+    → (image : Image) → LeavesTorn (base_of layout.records) blocks m image → Recovers image (world_on (store_on m.shows (base_of layout.records)) map.empty t)
+torn-recovers layout t blocks m busy safe image from =
+    let base = base_of layout.records in
+    let was = safe.blocks from.0 from.1 in
+    holds-recovers layout t m.shows image (kept_table layout t blocks from.0 image from.2 (safe.table from.0 from.1)) (record {
+      size = kept_size base blocks from.0 image from.2 ∙ was.size;
+      at = λ k at.
+          ap (λ (k : ℕ). get_or image k []) at.place
+          ∙ kept_there base blocks from.0 image at.block from.2 (busy at.block at.named)
+          ∙ sym (ap (λ (k : ℕ). get_or from.0 k []) at.place)
+          ∙ was.at k at;
+    })
 
 -- so do reads
 pub reads-safe : (layout : Layout) (t : Table) (old new : Meaning) → OnlyReads old new → IsSafe layout t old → IsSafe layout t new

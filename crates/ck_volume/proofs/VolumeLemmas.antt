@@ -18,7 +18,7 @@ use Rattle.ck_volume.specs.Device.{store_on}
 use Rattle.ck_volume.specs.Files.{AreFiles}
 use Rattle.ck_volume.specs.Plain.{IsOurs}
 use Rattle.ck_volume.specs.Reading.{OnlyReads}
-use Rattle.ck_volume.specs.Storing.{IsStored, StoredOrSame, OnlyStores}
+use Rattle.ck_volume.specs.Storing.{StoredOrSame, OnlyStores}
 use Rattle.ck_slots.specs.Committed.{Commits}
 use Rattle.ck_volume.specs.Telling.{limits_of}
 use Rattle.ck_volume.specs.declared.fault.Fault.{Fault}
@@ -26,9 +26,10 @@ use Rattle.ck_volume.specs.declared.volume.Volume.{Volume}
 use Rattle.ck_volume.specs.Volume.{table_of, mounts_of, blocks_of, layout_of, data_of, world_of, IsWhole, KeepsWorld, GoesOn, GoesOnOrBreaks, Runs, IsAttempt}
 use Rattle.ck_volume.proofs.Allocated.{used_count}
 use Rattle.ck_volume.proofs.Worlds.{world_same}
+use Rattle.ck_volume.proofs.StoringLemmas.{stored-keeps}
 use Rattle.ck_volume.proofs.SafeLemmas.{kept_there}
 use Rattle.ck_volume.proofs.CommittedLemmas.{keeps-busy, keeps-committing, keeps-new, leaves_more, settled_busy, settled_allocated}
-use Rattle.ck_volume.proofs.GoesOnLemmas.{KeepsEither, either_busy, either_stores, either_reads, leaves_either_start, leaves_either_step}
+use Rattle.ck_volume.proofs.GoesOnLemmas.{KeepsEither, either_busy, either_stores, either_reads, leaves_either_start, leaves_either_step, leaves_either_stores}
 
 pub on_ok_map : {A E : Type 0} (P Q : Type 0) (r : Result A E) → (P → Q) → OnOk r P → OnOk r Q
 on_ok_map P Q (Ok x) f p = f p
@@ -49,6 +50,15 @@ runs_step old mid new runs step = record {
   reads = omega (arith, runs.reads, step.reads);
   writes = omega (arith, runs.writes, step.writes);
   later = omega (arith, runs.later, step.later);
+}
+
+runs_stores : (base : ℕ) (blocks : Allocation) (old mid new : Meaning) → Runs old mid → OnlyStores base blocks mid new → Runs old new
+runs_stores base blocks old mid new runs stores = record {
+  size = stores.size ∙ runs.size;
+  tells = stores.tells ∙ runs.tells;
+  reads = omega (arith, runs.reads, stores.reads);
+  writes = omega (arith, runs.writes, stores.writes);
+  later = omega (arith, runs.later, stores.later);
 }
 
 -- the files with the limits of their own table
@@ -112,12 +122,10 @@ module _ {D : Type 0} where
   pub stores-attempt : (old mid new : Meaning) (before middle after : Volume D) → IsAttempt old mid before middle → GoesOn old mid before middle → OnlyStores (data_of middle) (blocks_of middle) mid new
       → after.length ≡ middle.length → after.broken ≡ middle.broken → IsAttempt old new before after
   stores-attempt old mid new before middle after attempt goes stores length broken = record {
-    runs = runs_step old mid new attempt.runs stores.step;
+    runs = runs_stores (data_of middle) (blocks_of middle) old mid new attempt.runs stores;
     survives = λ told w keeps.
         let now = unmounted (world_of old.shows before) in
-        let mid_told : IsTrue mid.tells = subst IsTrue (sym attempt.runs.tells) told in
-        leaves_either_step w now (layout_of middle) (blocks_of middle) old mid new (attempt.survives told w keeps) stores.step
-        (either_stores w now (layout_of middle) (blocks_of middle) mid new mid_told stores (goes.kept told w keeps));
+        leaves_either_stores w now (layout_of middle) (blocks_of middle) old mid new (attempt.survives told w keeps) stores (goes.kept told w keeps);
     length_stays = length ∙ attempt.length_stays;
     broken_stays = broken ∙ attempt.broken_stays;
   }
@@ -131,7 +139,7 @@ module _ {D : Type 0} where
           files = own_files (table_of middle) (table_of after) (blocks_of after) files;
           blocks = ap (λ (l : Layout). l.blocks) layout ∙ whole.blocks ∙ sym files.limit;
           records = ap (λ (l : Layout). l.records) layout ∙ whole.records ∙ sym files.records;
-          size = subst (λ n. size_of (layout_of after).blocks (layout_of after).records ≤ n) (sym stores.step.size) (subst (λ (l : Layout). size_of l.blocks l.records ≤ mid.size) (sym layout) whole.size);
+          size = subst (λ n. size_of (layout_of after).blocks (layout_of after).records ≤ n) (sym stores.size) (subst (λ (l : Layout). size_of l.blocks l.records ≤ mid.size) (sym layout) whole.size);
           settled = subst (λ (l : Layout). Settled l new) (sym layout) (stores-settled whole.settled);
         };
         kept = λ told w keeps.
@@ -148,29 +156,26 @@ module _ {D : Type 0} where
       base_high : 2 ≤ base_of records
       base_high = omega (arith, area_low records false, area_high records false)
 
-      -- a store leaves the gate and the areas
+      -- stores leave the gate and the areas
       same_gate : (d c : Image) → StoredOrSame (base_of records) (blocks_of middle) d c → names_second c ≡ names_second d
       same_gate d c stored =
-          ⊎_elim
-          (λ (same : c ≡ d). ap names_second same)
-          (λ (s : IsStored (base_of records) (blocks_of middle) d c).
-          let apart : 1 ≢ base_of records + s.block = λ same. absurd (no_one s.block same) in
-          ap names_second s.is ∙ ap (λ (g : List ℕ). get_or g 0 0 == 71) (get_or-set_other d (base_of records + s.block) 1 s.bytes [] apart))
-          stored
+          stored-keeps (base_of records) (blocks_of middle) (λ x. names_second x ≡ names_second d) (λ x block bytes free same.
+          let apart : 1 ≢ base_of records + block = λ at. absurd (no_one block at) in
+          ap (λ (g : List ℕ). get_or g 0 0 == 71) (get_or-set_other x (base_of records + block) 1 bytes [] apart) ∙ same)
+          d c stored refl
         where
           no_one : (block : ℕ) → 1 ≡ base_of records + block → ⊥
           no_one block same = omega (arith, base_high)
 
       same_table : (d c : Image) → StoredOrSame (base_of records) (blocks_of middle) d c → table_on (layout_of middle) c ≡ table_on (layout_of middle) d
       same_table d c stored =
-          ⊎_elim
-          (λ (same : c ≡ d). ap (table_on (layout_of middle)) same)
-          (λ (s : IsStored (base_of records) (blocks_of middle) d c). ap (table_on (layout_of middle)) s.is ∙ table_on-set (layout_of middle) d (base_of records + s.block) s.bytes (omega arith))
-          stored
+          stored-keeps (base_of records) (blocks_of middle) (λ x. table_on (layout_of middle) x ≡ table_on (layout_of middle) d) (λ x block bytes free same.
+          table_on-set (layout_of middle) x (base_of records + block) bytes (omega arith) ∙ same)
+          d c stored refl
 
       stores-settled : Settled (layout_of middle) mid → Settled (layout_of middle) new
       stores-settled settled told image left =
-          let mid_told : IsTrue mid.tells = subst IsTrue stores.step.tells told in
+          let mid_told : IsTrue mid.tells = subst IsTrue stores.tells told in
           let from = stores.crash image left in
           let was = settled mid_told from.0 from.1 in
           record {

@@ -3,6 +3,7 @@ ghost use Rattle.ck_volume.specs.declared.fault.Fault.TheVariants.{ReadFault, Wr
 ghost use Rattle.std.specs.Option.{ForSome};
 ghost use Rattle.std.specs.FinSet as set;
 ghost use Rattle.ck_alloc.specs.Blocks.{IsFree, IsPartition, free_count};
+ghost use Rattle.ck_volume.specs.Allocating.{KeepsBusy};
 ghost use Rattle.ck_volume.specs.Device.{store_on};
 ghost use Rattle.ck_volume.specs.Reading.{bytes_of, IsFilled};
 ghost use Rattle.ck_volume.specs.Writing.{patched, AgreeBut, IsWritingFault};
@@ -47,6 +48,7 @@ fn put_block<D: Disk>(
     ensures partition { IsPartition blocks.new }
     ensures stored { IfOk result (λ block. IsTrue (D.means disk.old).tells → store_on (D.means disk.new).shows area.base block ≡ content.now) }
     ensures others { IfOk result (λ block. IsTrue (D.means disk.old).tells → AgreeBut block (store_on (D.means disk.old).shows area.base) (store_on (D.means disk.new).shows area.base)) }
+    ensures busy { KeepsBusy blocks.old blocks.new }
     ensures device { OnlyStores area.base blocks.old (D.means disk.old) (D.means disk.new) }
     ensures fault { IfErr result (IsWritingFault (D.means disk.old) (D.means disk.new)) }
     ensures err { IfErr result (λ fault. fault ≡ WriteFault) }
@@ -87,6 +89,7 @@ pub fn store_block<D: Disk>(
     ensures partition { IsPartition blocks.new }
     ensures stored { IfOk result (λ block. IsTrue (D.means disk.old).tells → store_on (D.means disk.new).shows area.base block ≡ patched (bytes_of (store_on (D.means disk.old).shows area.base) old) at bytes.now) }
     ensures others { IfOk result (λ block. IsTrue (D.means disk.old).tells → AgreeBut block (store_on (D.means disk.old).shows area.base) (store_on (D.means disk.new).shows area.base)) }
+    ensures busy { KeepsBusy blocks.old blocks.new }
     ensures device { OnlyStores area.base blocks.old (D.means disk.old) (D.means disk.new) }
     ensures fault { IfErr result (IsWritingFault (D.means disk.old) (D.means disk.new)) }
     ensures err { IfErr result (λ fault. ((fault ≡ ReadFault) × (blocks.new ≡ blocks.old)) ⊎ (fault ≡ WriteFault)) }
