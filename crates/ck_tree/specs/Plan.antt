@@ -2,7 +2,6 @@
 use Rattle.std.specs.Prelude.{◌≡◌, ◌≢◌, ◌≤◌, ◌+◌, ◌%◌, ◌⊎◌, ⊤, ℕ, true, List, [], ◌∷◌, length, All, Option, Some, None, IfSome, IsSome, Result, Ok, Err, replicate}
 use Rattle.std.specs.FinMap as map
 use Rattle.ck_model.specs.declared.key.Key.{Key}
-use Rattle.ck_model.specs.declared.key.Key.TheVariants.{Block}
 use Rattle.ck_model.specs.declared.cell.Cell.{Cell}
 use Rattle.ck_model.specs.declared.cell.Payload.TheVariants.{File, Dir, Bytes}
 use Rattle.ck_model.specs.declared.call.Call.{Call}
@@ -14,7 +13,7 @@ use Rattle.ck_model.specs.declared.change.Change.TheVariants as change
 use Rattle.ck_model.specs.declared.checkpoint.Counters.{Counters}
 use Rattle.ck_model.specs.declared.reply.Reply.{Reply}
 use Rattle.ck_model.specs.declared.reply.Reply.TheVariants as reply
-use Rattle.ck_model.specs.Cells.{Cells, content_at, bytes_in}
+use Rattle.ck_model.specs.Cells.{Cells}
 use Rattle.ck_model.specs.Changes.{cell_of, block_after, cut_block}
 use Rattle.ck_model.specs.Changing.{made, removed, removed_directory, moved, overwritten, truncated, file_limit}
 use Rattle.ck_model.specs.Held.{IsKey, IsEntry, IsStamp}
@@ -59,7 +58,7 @@ abbrev pub block_by : World → Call → ℕ → ℕ → List ℕ
 block_by w (Write path place bytes) node index = block_after w.primary node place bytes index
 block_by w (Fill path place len byte) node index = block_after w.primary node place (replicate len byte) index
 block_by w (Trunc path size) node index = cut_block w.primary node index (size % 4096)
-block_by w _ node index = bytes_in (content_at w.primary (Block node index))
+block_by w _ node index = block_after w.primary node 0 [] index
 
 -- the numbers that are given next, after the call
 abbrev pub numbers_after : Call → Counters → Counters
