@@ -35,7 +35,18 @@ pub fn read_all<S: Source>(
 {
     let most = limit + 1;
     let mut buffer = vec![in alloc; 0u8; most.min(PIECE)]?;
-    read_pieces(source, &mut buffer, Vec::new(alloc), most)
+    read_pieces(source, &mut buffer, room_for(alloc, most), most)
+}
+
+/// An empty list with room for so many bytes where memory allows, so that it doesn't move as it
+/// grows.
+fn room_for(alloc: Global, most: usize) -> Vec<u8>
+    ensures { result.items ≡ [] }
+{
+    match Vec::with_capacity(alloc, most) {
+        Ok(bytes) => bytes,
+        Err(_) => Vec::new(alloc),
+    }
 }
 
 fn read_pieces<S: Source>(
