@@ -141,14 +141,52 @@ fn reads_scripts(rt: HostRuntime) -> Result<(), Fail> {
 
 #[test]
 fn takes_what_is_built(rt: HostRuntime) -> Result<(), Fail> {
-    let text = "1 create c1\n1 mount a c1\n1 umount a\n1 ckpts\n1 info\n1 sync\n";
-    let script = parse(rt.alloc(), text.as_bytes()).ok().ok_or("refused")?;
-    let calls = script.calls.into_vec();
-    assert_eq!(rt; calls.len(), 6);
-    assert!(rt; matches!(&calls[2].call, Call::Umount(b'a')));
-    assert!(rt; matches!(&calls[3].call, Call::Ckpts));
-    assert!(rt; matches!(&calls[4].call, Call::Info));
-    assert!(rt; matches!(&calls[5].call, Call::Sync));
+    for line in [
+        "1 make /a/b/c",
+        "1 mkdir /d",
+        "1 rm /a/b",
+        "1 rmdir /",
+        "1 mv /a /d/e",
+        "1 write /a/b 1073741824 t:x",
+        "1 fill /a 1073741824 1048576 61",
+        "1 trunc /a 1073741824",
+        "1 read /a/b 1073741824 131072",
+        "1 ls /a/b",
+        "1 stat /",
+        "1 create c1",
+        "1 ckpts",
+        "1 mount a c1",
+        "1 umount a",
+        "1 cread a /a/b 1073741824 131072",
+        "1 cls a /",
+        "1 info",
+        "1 sync",
+    ] {
+        let script = parse(rt.alloc(), line.as_bytes()).ok().ok_or(line)?;
+        assert_eq!(rt; script.calls.into_vec().len(), 1, "{line}");
+    }
+    Ok(())
+}
+
+#[test]
+fn refuses_what_is_not_built(rt: HostRuntime) -> Result<(), Fail> {
+    for line in [
+        "1 create -n c",
+        "1 create -r c",
+        "1 create -n -r c",
+        "1 remove c",
+        "1 nodata c",
+        "1 nodata -s c",
+        "1 removable c on",
+        "1 restore c",
+        "1 backup a b",
+        "1 full a",
+        "2 sync",
+        "turns 1",
+    ] {
+        let fault = parse(rt.alloc(), line.as_bytes()).err();
+        assert_eq!(rt; fault, Some(ParseFault::BadLine(1)), "{line}");
+    }
     Ok(())
 }
 
@@ -163,11 +201,7 @@ fn refuses_the_first_bad_line(rt: HostRuntime) -> Result<(), Fail> {
         ("1 make /a\rb\n", Some(1)),
         (" # not at the front", Some(1)),
         ("#\n\n2 make /a", Some(3)),
-        ("turns 1\n", Some(1)),
-        ("1 make /a/b\n", Some(1)),
-        ("1 write /a 4096 t:x", Some(1)),
-        ("1 read /a 0 4097", Some(1)),
-        ("1 create -n c", Some(1)),
+        ("1 write /a 1073741825 t:x", Some(1)),
         ("1 sync\n1 remove c1\n", Some(2)),
     ] {
         let fault = parse(rt.alloc(), text.as_bytes()).err();
