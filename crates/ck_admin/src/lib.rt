@@ -9,6 +9,8 @@ mod print;
 mod read;
 mod refusal;
 #[cfg(test)]
+mod rows;
+#[cfg(test)]
 mod tests;
 
 pub use command::{Ended, top};

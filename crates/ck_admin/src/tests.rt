@@ -27,23 +27,23 @@ const BLOCKS: u32 = 85;
 
 /// A run of the top call: its status, what it printed, its line on standard error, and the device that it gave back.
 #[derive(Drop)]
-struct Run<D> {
+pub struct Run<D> {
     status: Status,
     printed: MemSink,
     line: MemSink,
-    disk: D,
+    pub disk: D,
 }
 
 impl<D> Run<D> {
-    fn is_done(&self) -> bool {
+    pub fn is_done(&self) -> bool {
         matches!(self.status, Status::Done)
     }
 
-    fn is_device_fault(&self) -> bool {
+    pub fn is_device_fault(&self) -> bool {
         matches!(self.status, Status::DeviceFault)
     }
 
-    fn has(&self, printed: &[u8], line: &[u8]) -> bool {
+    pub fn has(&self, printed: &[u8], line: &[u8]) -> bool {
         self.printed.bytes() == printed && self.line.bytes() == line
     }
 }
@@ -86,13 +86,13 @@ fn source(alloc: Global, script: &[u8], reads: &[u64]) -> Result<MemSource, NoMe
 }
 
 // Plays a script on a device.
-fn play_on<D: Disk + Drop>(alloc: Global, script: &[u8], disk: D) -> Result<Run<D>, NoMemory> {
+pub fn play_on<D: Disk + Drop>(alloc: Global, script: &[u8], disk: D) -> Result<Run<D>, NoMemory> {
     let script = MemSource::new(script.to_vec(alloc)?, 4096, Vec::new(alloc));
     run_on(alloc, &["play"], script, &[], disk)
 }
 
 // Makes a volume on a device of zeros with so many blocks.
-fn make_volume(
+pub fn make_volume(
     alloc: Global,
     length: u32,
     blocks: &str,
@@ -104,7 +104,7 @@ fn make_volume(
 }
 
 /// A new volume of the usual size.
-fn volume(alloc: Global) -> Result<MemDisk, NoMemory> {
+pub fn volume(alloc: Global) -> Result<MemDisk, NoMemory> {
     Ok(make_volume(alloc, BLOCKS, "64", "256")?.disk)
 }
 
@@ -115,7 +115,7 @@ fn device(alloc: Global, mut image: Vec<Block>, fails: &[u64]) -> Result<MemDisk
 }
 
 /// A device with the blocks of another, of whose calls these fail.
-fn copy_of(alloc: Global, disk: &MemDisk, fails: &[u64]) -> Result<MemDisk, NoMemory> {
+pub fn copy_of(alloc: Global, disk: &MemDisk, fails: &[u64]) -> Result<MemDisk, NoMemory> {
     device(alloc, disk.image().to_vec(alloc)?, fails)
 }
 

@@ -16,7 +16,8 @@ tested : (b : Bool) (number found : ℕ) → cond b (Some number) None ≡ Some 
 tested true number found e = (refl, cc)
 tested false number found e = cc
 
-up_to : (limit found : ℕ) (word : List ℕ) → number_up_to limit word ≡ Some found → found ≤ limit
+-- a number that is read is within its limit
+pub up_to : (limit found : ℕ) (word : List ℕ) → number_up_to limit word ≡ Some found → found ≤ limit
 up_to limit found word e = option_and_then_some _ _ found e (λ number _ rest. let both = tested (nat_le number limit) number found rest in grind (arith, nat_tests, both.0, both.1))
 
 actor_is : (found : ℕ) (word : List ℕ) → actor_of word ≡ Some found → (1 ≤ found) × (found ≤ 64)

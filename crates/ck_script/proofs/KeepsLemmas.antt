@@ -1,4 +1,4 @@
--- What every script that is read keeps to: its numbers, its limits, what is built, and the names of checkpoints.
+-- What every script that is read keeps to: its numbers, its limits, what is built, the names of checkpoints, and places.
 use Rattle.std.proofs.Common.{◌≡◌, ℕ, zero, suc, ◌+◌, ◌≤◌, Bool, true, false, cond, IsTrue, ◌&&◌, List, [], ◌∷◌, ◌++◌, length, Option, Some, None, Result, Ok, Err, All, nat_eq, nat_le, refl, sym, ap, subst, ◌∙◌, arith, length-append}
 use Rattle.std.specs.List.{AllByRecursion, range_with_len, cons_option, sum_by}
 use Rattle.std.specs.Option.{option_map_or, option_and_then}
@@ -16,11 +16,12 @@ use Rattle.ck_script.specs.Grammar.{form_of}
 use Rattle.ck_script.specs.Built.{is_built}
 use Rattle.ck_script.specs.Limits.{are_within_limits, asked_by, streams_by, call_limit, length_limit, stream_limit, IsWithinLimits}
 use Rattle.ck_script.specs.Names.{HasValidName, HaveValidNames}
+use Rattle.ck_script.specs.Places.{HasPlaces, HavePlaces}
 use Rattle.ck_script.specs.Numbered.{IsNumbered, numbers_in}
 use Rattle.ck_script.specs.Reading.{Parsed, nothing_read, is_skipped, form_in, line_of, with_call, with_form, with_line, long_line, read_lines, read_script}
 use Rattle.ck_script.specs.Steps.{HasActor}
 use Rattle.ck_script.proofs.FormLemmas.{form_actor, built_found}
-use Rattle.ck_script.proofs.CheckpointLemmas.{HasNamedCall, form_found-named}
+use Rattle.ck_script.proofs.CallLemmas.{IsKept, HasKeptCall, form_found-kept}
 
 -- what each line keeps holds of all that is read
 module _ (P : Parsed → Type 0) (keeps : (number : ℕ) (read more : Parsed) (line : List ℕ) → P read → with_line number read line ≡ Some more → P more) where
@@ -83,14 +84,15 @@ pub record IsRead (read : Parsed) : Type 0 where
   pub actors : All (λ line. (1 ≤ line.actor) × (line.actor ≤ 64)) read.calls
   pub built : AllByRecursion (λ line. IsTrue (is_built (Called line.actor line.call))) read.calls
   pub names : HaveValidNames read.calls
+  pub places : HavePlaces read.calls
 
 all_more : (P : Line → Type 0) (lines : List Line) (line : Line) → AllByRecursion P lines → P line → AllByRecursion P (lines ++ line ∷ [])
 all_more P [] line all p = (p, tt)
 all_more P (first ∷ lines) line all p = (all.0, all_more P lines line all.1 p)
 
-call_keeps : (number : ℕ) (read more : Parsed) (actor : ℕ) (call : Call) → IsRead read → (1 ≤ actor) × (actor ≤ 64) → is_built (Called actor call) ≡ true → HasValidName call →
+call_keeps : (number : ℕ) (read more : Parsed) (actor : ℕ) (call : Call) → IsRead read → (1 ≤ actor) × (actor ≤ 64) → is_built (Called actor call) ≡ true → IsKept call →
     with_call read (line_of read.calls number actor call) ≡ Some more → IsRead more
-call_keeps number read more actor call is within built named e =
+call_keeps number read more actor call is within built kept e =
     let line = line_of read.calls number actor call in
     let all = read.calls ++ line ∷ [] in
     elim (are_within_limits all) as (λ b. are_within_limits all ≡ b → cond b (Some (record { calls = all; turns = read.turns })) None ≡ Some more → IsRead more) [
@@ -102,17 +104,18 @@ call_keeps number read more actor call is within built named e =
             limits = limits;
             actors = All-push (λ (line : Line). (1 ≤ line.actor) × (line.actor ≤ 64)) read.calls line is.actors within;
             built = all_more (λ line. IsTrue (is_built (Called line.actor line.call))) read.calls line is.built built;
-            names = all_more (λ line. HasValidName line.call) read.calls line is.names named;
+            names = all_more (λ line. HasValidName line.call) read.calls line is.names kept.0;
+            places = all_more (λ line. HasPlaces line.call) read.calls line is.places kept.1;
           })
       | false ↦ λ limits e. cc
     ] refl e
 
-form_keeps : (number : ℕ) (read more : Parsed) (form : Form) → IsRead read → HasActor form → is_built form ≡ true → HasNamedCall form → with_form number read form ≡ Some more → IsRead more
-form_keeps number read more (Called actor call) is has built named e = call_keeps number read more actor call is has built named e
-form_keeps number read more (Turned turns) is has built named e =
+form_keeps : (number : ℕ) (read more : Parsed) (form : Form) → IsRead read → HasActor form → is_built form ≡ true → HasKeptCall form → with_form number read form ≡ Some more → IsRead more
+form_keeps number read more (Called actor call) is has built kept e = call_keeps number read more actor call is has built kept e
+form_keeps number read more (Turned turns) is has built kept e =
     let next : Parsed = record { calls = read.calls; turns = read.turns ++ turns } in
     let same : next ≡ more = cc in
-    subst IsRead same (record { numbered = is.numbered; limits = is.limits; actors = is.actors; built = is.built; names = is.names })
+    subst IsRead same (record { numbered = is.numbered; limits = is.limits; actors = is.actors; built = is.built; names = is.names; places = is.places })
 
 line_keeps : (number : ℕ) (read more : Parsed) (line : List ℕ) → IsRead read → with_line number read line ≡ Some more → IsRead more
 line_keeps number read more line is e =
@@ -120,11 +123,11 @@ line_keeps number read more line is e =
       | true ↦ λ e. let same : read ≡ more = cc in subst IsRead same is
       | false ↦ λ e. option_and_then_some (with_form number read) (form_in line) more e (λ form found rest.
           let built = built_found (form_of (words_of line)) form found in
-          form_keeps number read more form is (form_actor (words_of line) form built.0) built.1 (form_found-named (words_of line) form built.0) rest)
+          form_keeps number read more form is (form_actor (words_of line) form built.0) built.1 (form_found-kept (words_of line) form built.0) rest)
     ] e
 
 nothing_is_read : IsRead nothing_read
-nothing_is_read = record { numbered = λ actor. refl; limits = refl; actors = λ k d h. absurd (omega (arith, h)); built = tt; names = tt }
+nothing_is_read = record { numbered = λ actor. refl; limits = refl; actors = λ k d h. absurd (omega (arith, h)); built = tt; names = tt; places = tt }
 
 pub script_is_read : (bytes : List ℕ) (read : Parsed) → read_script bytes ≡ Ok read → IsRead read
 script_is_read bytes read e = read_keeps IsRead line_keeps (long_line bytes) 1 nothing_read read _ nothing_is_read e

@@ -1,7 +1,7 @@
 pub mod NameLemmas
 pub mod PathLemmas
 pub mod FormLemmas
-pub mod CheckpointLemmas
+pub mod CallLemmas
 pub mod KeepsLemmas
 pub mod TallyLemmas
 pub mod LinesLemmas

@@ -3,6 +3,7 @@ pub mod Grammar
 pub mod Built
 pub mod Limits
 pub mod Names
+pub mod Places
 pub mod Reading
 pub mod Steps
 pub mod Generator

@@ -1,29 +1,17 @@
 ghost use Rattle.std.specs.Prelude.{◌≡◌};
-ghost use Rattle.ck_script.specs.Built.{is_one_name as has_one_name, is_built_call as built_call, is_built as built};
+ghost use Rattle.ck_script.specs.Built.{is_built_call as built_call, is_built as built};
 
 use crate::form::Form;
-use ck_model::{Call, Path};
-
-fn is_one_name(path: &Path) -> bool
-    ensures { result ≡ has_one_name path.now }
-{
-    path.items().len() == 1
-}
+use ck_model::Call;
 
 fn is_built_call(call: &Call) -> bool
     ensures { result ≡ built_call call.now }
 {
     match call {
-        Call::Make(path) => is_one_name(path),
-        Call::Write(path, at, bytes) => {
-            is_one_name(path) && *at <= 4096 && bytes.items().len() as u64 <= 4096 - *at
-        }
-        Call::Read(path, at, len) | Call::Cread(_, path, at, len) => {
-            is_one_name(path) && *at <= 4096 && *len <= 4096
-        }
         Call::Create(_, nodata, removable) => !*nodata && !*removable,
-        Call::Ckpts | Call::Mount(_, _) | Call::Umount(_) | Call::Info | Call::Sync => true,
-        _ => false,
+        Call::Remove(_) | Call::Nodata(_, _) | Call::Removable(_, _) | Call::Restore(_) => false,
+        Call::Backup(_, _) | Call::Full(_) => false,
+        _ => true,
     }
 }
 

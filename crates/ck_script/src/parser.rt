@@ -5,6 +5,7 @@ ghost use Rattle.std.specs.Str.Lines.{lines as lines_of, strip_carriage_return};
 ghost use Rattle.ck_text.specs.Words.{words_of};
 ghost use Rattle.ck_script.specs.Built.{is_built};
 ghost use Rattle.ck_script.specs.Names.{HaveValidNames};
+ghost use Rattle.ck_script.specs.Places.{HavePlaces};
 ghost use Rattle.ck_script.specs.declared.form.Form.TheVariants as forms;
 ghost use Rattle.ck_script.specs.Reading.{is_skipped as skips, long_line as long_line_of, nothing_read, with_line, read_lines, read_script};
 ghost use Rattle.ck_script.specs.Steps.{IsFaultOf, IsRefusal, line_at};
@@ -145,6 +146,7 @@ pub fn parse(alloc: Global, bytes: &[u8]) -> Result<Script, ParseFault>
     ensures read { IfOk result (λ script. read_script bytes.now ≡ Ok (record { calls = script.calls; turns = script.turns })) }
     ensures built { IfOk result (λ script. AllByRecursion (λ line. IsTrue (is_built (forms.Called line.actor line.call))) script.calls) }
     ensures checkpoint_names { IfOk result (λ script. HaveValidNames script.calls) }
+    ensures places { IfOk result (λ script. HavePlaces script.calls) }
     ensures refused { IfErr result (IsFaultOf (read_script bytes.now)) }
 {
     let tally = read_text(alloc, long_line(bytes), within_limit(bytes))?;

@@ -13,93 +13,95 @@ fn form(alloc: Global, line: &str) -> Result<Option<Form>, NoMemory> {
     form_of(alloc, &words)
 }
 
+const TAKEN: &str = "1 make /
+64 mkdir /a/b
+1 rm /...
+1 rmdir /-
+1 mv /a /
+1 write /a 1073741824 t:~!
+1 write /a 0 x:
+1 fill /a 0 1048576 0a
+1 trunc /a 1073741824
+1 read /a 0 131072
+1 ls /
+1 stat /a
+1 create c
+1 create -n c
+1 create -r c
+1 remove c
+1 nodata c
+1 nodata -s c
+1 removable c on
+1 removable c off
+1 ckpts
+1 mount a .
+1 umount z
+1 cread z / 0 131072
+1 cls a /
+1 restore c
+1 backup a a
+1 full b
+1 info
+1\tsync\t
+turns
+ turns b
+";
+
 #[test]
 fn takes_lines(rt: HostRuntime) -> Result<(), Fail> {
-    for line in [
-        "1 make /",
-        "64 mkdir /a/b",
-        "1 rm /...",
-        "1 rmdir /-",
-        "1 mv /a /",
-        "1 write /a 1073741824 t:~!",
-        "1 write /a 0 x:",
-        "1 fill /a 0 1048576 0a",
-        "1 trunc /a 1073741824",
-        "1 read /a 0 131072",
-        "1 ls /",
-        "1 stat /a",
-        "1 create c",
-        "1 create -n c",
-        "1 create -r c",
-        "1 remove c",
-        "1 nodata c",
-        "1 nodata -s c",
-        "1 removable c on",
-        "1 removable c off",
-        "1 ckpts",
-        "1 mount a .",
-        "1 umount z",
-        "1 cread z / 0 131072",
-        "1 cls a /",
-        "1 restore c",
-        "1 backup a a",
-        "1 full b",
-        "1 info",
-        "1\tsync ",
-        "turns",
-        " turns b",
-    ] {
+    for line in TAKEN.lines() {
         assert!(rt; form(rt.alloc(), line)?.is_some(), "{line}");
     }
     Ok(())
 }
 
+const REFUSED: &str = "
+1
+0 sync
+65 sync
+01 sync
++1 sync
+1 synch
+1 Sync
+1 sync x
+1 make
+1 make /a /b
+1 make a
+1 make //a
+1 make /a/
+1 make /a/..
+1 mv /a
+1 write /a 1073741825 t:
+1 write /a 01 t:x
+1 write /a 0 x
+1 write /a 0 x:0
+1 write /a 0 x:0g
+1 write /a 0 y:00
+1 fill /a 0 1048577 61
+1 fill /a 0 1 6
+1 fill /a 0 1 616
+1 trunc /a 1073741825
+1 read /a 0 131073
+1 read /a 0 01
+1 create -c
+1 create -r -n c
+1 create -n
+1 nodata -n c
+1 removable c
+1 removable c On
+1 mount A c
+1 mount aa c
+1 cread { /a 0 1
+1 cread a /a 0 131073
+1 backup a
+turns 0
+turns 65
+turns B
+";
+
 #[test]
 fn refuses_lines(rt: HostRuntime) -> Result<(), Fail> {
-    for line in [
-        "",
-        "1",
-        "0 sync",
-        "65 sync",
-        "01 sync",
-        "+1 sync",
-        "1 synch",
-        "1 Sync",
-        "1 sync x",
-        "1 make",
-        "1 make /a /b",
-        "1 make a",
-        "1 make //a",
-        "1 make /a/",
-        "1 make /a/..",
-        "1 mv /a",
-        "1 write /a 1073741825 t:",
-        "1 write /a 01 t:x",
-        "1 write /a 0 x",
-        "1 write /a 0 x:0",
-        "1 write /a 0 x:0g",
-        "1 write /a 0 y:00",
-        "1 fill /a 0 1048577 61",
-        "1 fill /a 0 1 6",
-        "1 fill /a 0 1 616",
-        "1 trunc /a 1073741825",
-        "1 read /a 0 131073",
-        "1 read /a 0 01",
-        "1 create -c",
-        "1 create -r -n c",
-        "1 create -n",
-        "1 nodata -n c",
-        "1 removable c",
-        "1 removable c On",
-        "1 mount A c",
-        "1 mount aa c",
-        "1 cread { /a 0 1",
-        "1 cread a /a 0 131073",
-        "1 backup a",
-        "turns 0",
-        "turns 65",
-        "turns B",
-    ] {
+    for line in REFUSED.lines() {
         assert!(rt; form(rt.alloc(), line)?.is_none(), "{line}");
     }
     Ok(())
@@ -139,16 +141,58 @@ fn reads_scripts(rt: HostRuntime) -> Result<(), Fail> {
     Ok(())
 }
 
+const BUILT: &str = "1 make /a/b/c
+1 mkdir /d
+1 rm /a/b
+1 rmdir /
+1 mv /a /d/e
+1 write /a/b 1073741824 t:x
+1 fill /a 1073741824 1048576 61
+1 trunc /a 1073741824
+1 read /a/b 1073741824 131072
+1 ls /a/b
+1 stat /
+1 create c1
+1 ckpts
+1 mount a c1
+1 umount a
+1 cread a /a/b 1073741824 131072
+1 cls a /
+1 info
+1 sync
+";
+
 #[test]
 fn takes_what_is_built(rt: HostRuntime) -> Result<(), Fail> {
-    let text = "1 create c1\n1 mount a c1\n1 umount a\n1 ckpts\n1 info\n1 sync\n";
-    let script = parse(rt.alloc(), text.as_bytes()).ok().ok_or("refused")?;
+    let script = parse(rt.alloc(), BUILT.as_bytes()).ok().ok_or("refused")?;
     let calls = script.calls.into_vec();
-    assert_eq!(rt; calls.len(), 6);
-    assert!(rt; matches!(&calls[2].call, Call::Umount(b'a')));
-    assert!(rt; matches!(&calls[3].call, Call::Ckpts));
-    assert!(rt; matches!(&calls[4].call, Call::Info));
-    assert!(rt; matches!(&calls[5].call, Call::Sync));
+    assert_eq!(rt; calls.len(), 19);
+    assert!(rt; matches!(&calls[4].call, Call::Mv(_, path) if path.items().len() == 2));
+    assert!(rt; matches!(&calls[14].call, Call::Umount(b'a')));
+    Ok(())
+}
+
+const NOT_BUILT: &str = "1 create -n c
+1 create -r c
+1 create -n -r c
+1 remove c
+1 nodata c
+1 nodata -s c
+1 removable c on
+1 restore c
+1 backup a b
+1 full a
+2 sync
+turns 1
+";
+
+#[test]
+fn refuses_what_is_not_built(rt: HostRuntime) -> Result<(), Fail> {
+    for line in NOT_BUILT.lines() {
+        assert!(rt; form(rt.alloc(), line)?.is_some(), "{line}");
+        let fault = parse(rt.alloc(), line.as_bytes()).err();
+        assert_eq!(rt; fault, Some(ParseFault::BadLine(1)), "{line}");
+    }
     Ok(())
 }
 
@@ -163,11 +207,7 @@ fn refuses_the_first_bad_line(rt: HostRuntime) -> Result<(), Fail> {
         ("1 make /a\rb\n", Some(1)),
         (" # not at the front", Some(1)),
         ("#\n\n2 make /a", Some(3)),
-        ("turns 1\n", Some(1)),
-        ("1 make /a/b\n", Some(1)),
-        ("1 write /a 4096 t:x", Some(1)),
-        ("1 read /a 0 4097", Some(1)),
-        ("1 create -n c", Some(1)),
+        ("1 write /a 1073741825 t:x", Some(1)),
         ("1 sync\n1 remove c1\n", Some(2)),
     ] {
         let fault = parse(rt.alloc(), text.as_bytes()).err();

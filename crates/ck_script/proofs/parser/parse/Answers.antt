@@ -5,6 +5,7 @@ use Rattle.ck_script.specs.declared.form.Form.TheVariants.{Called}
 use Rattle.ck_script.specs.Built.{is_built}
 use Rattle.ck_script.specs.Limits.{IsWithinLimits}
 use Rattle.ck_script.specs.Names.{HaveValidNames}
+use Rattle.ck_script.specs.Places.{HavePlaces}
 use Rattle.ck_script.specs.Numbered.{IsNumbered}
 use Rattle.ck_script.specs.Reading.{Parsed, read_script}
 use Rattle.ck_script.specs.Steps.{IsFaultOf}
@@ -44,3 +45,12 @@ returns-clause-checkpoint_names c =
     let is : IsRead tally = script_is_read c.args.bytes.now tally read in
     let calls = sym (c.of.ensures ∙ c.into_parts-lines.ensures.calls) in
     subst HaveValidNames calls is.names
+
+pub returns-clause-places : goal.returns-clause-places
+returns-clause-places c =
+    let tally : Parsed = c.in_ok-tally.tally in
+    let read : read_script c.args.bytes.now ≡ Ok tally =
+    read_script-is c.args.bytes.now c.within_limit.result.now c.long_line.result c.long_line.ensures c.within_limit.ensures.text ∙ c.in_ok-tally.ensures.read in
+    let is : IsRead tally = script_is_read c.args.bytes.now tally read in
+    let calls = sym (c.of.ensures ∙ c.into_parts-lines.ensures.calls) in
+    subst HavePlaces calls is.places
