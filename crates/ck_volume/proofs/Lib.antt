@@ -20,6 +20,7 @@ pub mod Ordinary
 pub mod NamesLemmas
 pub mod StoringLemmas
 pub mod PlaceLemmas
+pub mod PieceLemmas
 pub mod SafeLemmas
 pub mod CommittedLemmas
 pub mod GoesOnLemmas

@@ -86,7 +86,7 @@ zeros n place = at (cases_lt place n)
     at (inl h) = get_or-replicate n place 0 0 h
     at (inr h) = get_or_past (replicate n 0) place 0 (omega (arith, length-replicate {A = ℕ} n 0, h))
 
-map_shift : (f g : ℕ → ℕ) (a b n : ℕ) → ((k : ℕ) → k < n → f (a + k) ≡ g (b + k)) → list_map f (range_with_len a n) ≡ list_map g (range_with_len b n)
+pub map_shift : (f g : ℕ → ℕ) (a b n : ℕ) → ((k : ℕ) → k < n → f (a + k) ≡ g (b + k)) → list_map f (range_with_len a n) ≡ list_map g (range_with_len b n)
 map_shift f g a b zero same = refl
 map_shift f g a b (suc n) same =
     let first : f a ≡ g b = simp add-zero at (same 0 (omega arith)) in

@@ -14,6 +14,7 @@ pub mod Recovering
 pub mod Safe
 pub mod Storing
 pub mod Placing
+pub mod Pieces
 pub mod Planning
 pub mod Committed
 pub mod Built

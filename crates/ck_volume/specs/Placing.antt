@@ -17,6 +17,13 @@ with_places (Del key ∷ changes) places = Del key ∷ with_places changes place
 with_places (Write node index block ∷ changes) [] = Write node index block ∷ with_places changes []
 with_places (Write node index block ∷ changes) (place ∷ places) = Write node index place ∷ with_places changes places
 
+-- the data blocks that the changes write
+abbrev pub places_of : List Change → List ℕ
+places_of [] = []
+places_of (Put key small ∷ changes) = places_of changes
+places_of (Del key ∷ changes) = places_of changes
+places_of (Write node index block ∷ changes) = block ∷ places_of changes
+
 -- no number stands twice
 abbrev pub AreDistinct : List ℕ → Type 0
 AreDistinct [] = ⊤

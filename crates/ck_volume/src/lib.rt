@@ -12,6 +12,8 @@ mod freezing;
 mod mounting;
 mod names;
 mod open;
+mod piece;
+mod placing;
 mod planning;
 mod reading;
 mod reads;
