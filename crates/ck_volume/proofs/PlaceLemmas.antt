@@ -322,3 +322,114 @@ module _ (Held : List Change → Type 0) (t : Table) (old now : List Change) (at
         unnamed = placing.unnamed;
         allocated = placing.allocated;
       }
+
+-- ---- places that are given back
+
+-- of these changes the rest is still to be given back
+pub record IsGivingBack (first : Allocation) (all rest : List Change) (blocks : Allocation) : Type 0 where
+  pub distinct : AreDistinct (places_of rest)
+  pub held : AllByRecursion (λ place. set.contains blocks.used place ≡ true) (places_of rest)
+  pub used : (block : ℕ) → (set.contains blocks.used block && not (is_taken (places_of rest) block)) ≡ (set.contains first.used block && not (is_taken (places_of all) block))
+  pub pending : blocks.pending ≡ first.pending
+  pub total : blocks.total ≡ first.total
+  pub partition : IsPartition blocks
+
+pub giving-other : (first : Allocation) (all : List Change) (x : Change) (rest : List Change) (blocks : Allocation) → is_write x ≡ false → IsGivingBack first all (x ∷ rest) blocks → IsGivingBack first all rest blocks
+giving-other first all (Put key small) rest blocks is giving = record { distinct = giving.distinct; held = giving.held; used = giving.used; pending = giving.pending; total = giving.total; partition = giving.partition }
+giving-other first all (Del key) rest blocks is giving = record { distinct = giving.distinct; held = giving.held; used = giving.used; pending = giving.pending; total = giving.total; partition = giving.partition }
+giving-other first all (Write n i p) rest blocks is giving = absurd (false≢true (sym is))
+
+pub giving-write : (first : Allocation) (all : List Change) (node index place : ℕ) (rest : List Change) (blocks left : Allocation) → left ≡ record blocks { used = set.remove blocks.used place } → IsPartition left
+    → IsGivingBack first all (Write node index place ∷ rest) blocks → IsGivingBack first all rest left
+giving-write first all node index place rest blocks left after partition giving = record {
+  distinct = giving.distinct.1;
+  held = still (places_of rest) giving.distinct.0 giving.held.1;
+  used = λ b.
+      ap (λ x. x && not (is_taken (places_of rest) b)) (contains b)
+      ∙ move (nat_eq b place) (set.contains blocks.used b) (is_taken (places_of rest) b)
+      ∙ giving.used b;
+  pending = ap (λ (a : Allocation). a.pending) after ∙ giving.pending;
+  total = ap (λ (a : Allocation). a.total) after ∙ giving.total;
+  partition = partition;
+}
+  where
+    contains : (b : ℕ) → set.contains left.used b ≡ (not (nat_eq b place) && set.contains blocks.used b)
+    contains b =
+        ap (λ (a : Allocation). set.contains a.used b) after
+        ∙ set.contains-remove nat_cmp_total blocks.used place b
+        ∙ ap (λ e. not e && set.contains blocks.used b) (unsigned_tied b place)
+
+    move : (e u r : Bool) → ((not e && u) && not r) ≡ (u && not (e || r))
+    move true true r = refl
+    move true false r = refl
+    move false u r = refl
+
+    still : (places : List ℕ) → list_any (nat_eq place) places ≡ false → AllByRecursion (λ p. set.contains blocks.used p ≡ true) places → AllByRecursion (λ p. set.contains left.used p ≡ true) places
+    still [] apart held = tt
+    still (p ∷ places) apart held = (contains p ∙ (λ i. not (unlike i) && held.0 i), still places (rest_of (nat_eq place p) (list_any (nat_eq place) places) apart) held.1)
+      where
+        rest_of : (a b : Bool) → (a || b) ≡ false → b ≡ false
+        rest_of false b h = h
+        rest_of true b h = absurd (false≢true (sym h))
+
+        first_of_two : (a b : Bool) → (a || b) ≡ false → a ≡ false
+        first_of_two false b h = refl
+        first_of_two true b h = absurd (false≢true (sym h))
+
+        unlike : nat_eq p place ≡ false
+        unlike = let no : nat_eq place p ≡ false = first_of_two (nat_eq place p) (list_any (nat_eq place) places) apart in grind (arith, nat_tests, no)
+
+-- once all are given back, what the table names is in use, and nothing else
+pub given-back : (t : Table) (places : List ℕ) (blocks left : Allocation) → IsAllocatedBut places t blocks → AllByRecursion (λ place. is_named t place ≡ false) places
+    → ((block : ℕ) → set.contains left.used block ≡ (set.contains blocks.used block && not (is_taken places block))) → left.total ≡ blocks.total → IsPartition left → IsAllocated t left
+given-back t places blocks left allocated unnamed used total partition = record {
+  total = total ∙ allocated.total;
+  used = λ b. used b ∙ ap (λ u. u && not (is_taken places b)) (allocated.used b) ∙ only (is_named t b) (is_taken places b) refl (λ named. apart places b unnamed named);
+  partition = partition;
+}
+  where
+    only : (n p : Bool) → (p ≡ p) → (n ≡ true → p ≡ false) → ((n || p) && not p) ≡ (n || false)
+    only true true same h = absurd (false≢true (sym (h refl)))
+    only true false same h = refl
+    only false true same h = refl
+    only false false same h = refl
+
+    apart : (places : List ℕ) (b : ℕ) → AllByRecursion (λ place. is_named t place ≡ false) places → is_named t b ≡ true → is_taken places b ≡ false
+    apart [] b all named = refl
+    apart (p ∷ places) b all named = neither (nat_eq b p) (is_taken places b) (unlike (nat_eq b p) refl) (apart places b all.1 named)
+      where
+        neither : (a c : Bool) → a ≡ false → c ≡ false → (a || c) ≡ false
+        neither false c h k = k
+        neither true c h k = absurd (false≢true (sym h))
+
+        unlike : (e : Bool) → nat_eq b p ≡ e → nat_eq b p ≡ false
+        unlike false is = is
+        unlike true is = let same : b ≡ p = grind (arith, nat_tests, is) in absurd (false≢true (sym all.0 ∙ ap (is_named t) (sym same) ∙ named))
+
+-- what is named is used, and what was taken is too, so that what was busy is so
+pub busy_placing : (t : Table) (places : List ℕ) (blocks later : Allocation) → IsAllocated t blocks → IsAllocatedBut places t later → later.pending ≡ blocks.pending → KeepsBusy blocks later
+busy_placing t places blocks later allocated placed pending b busy =
+    (λ i. placed.used b i || set.contains (pending i) b)
+    ∙ more (is_named t b) (is_taken places b) (set.contains blocks.pending b) (ap (λ u. u || set.contains blocks.pending b) (sym (allocated.used b)) ∙ busy)
+  where
+    more : (n p q : Bool) → ((n || false) || q) ≡ true → ((n || p) || q) ≡ true
+    more true p q h = refl
+    more false true q h = refl
+    more false false q h = h
+
+-- each place that was taken is in use
+pub all_used : (t : Table) (places : List ℕ) (blocks : Allocation) → IsAllocatedBut places t blocks → AllByRecursion (λ place. set.contains blocks.used place ≡ true) places
+all_used t places blocks allocated = below [] places refl
+  where
+    below : (before after : List ℕ) → before ++ after ≡ places → AllByRecursion (λ place. set.contains blocks.used place ≡ true) after
+    below before [] split = tt
+    below before (p ∷ after) split = (allocated.used p ∙ ap (λ b. is_named t p || b) (among before after p split) ∙ or_true (is_named t p), below (before ++ p ∷ []) after (append_assoc before (p ∷ []) after ∙ split))
+      where
+        or_true : (b : Bool) → (b || true) ≡ true
+        or_true true = refl
+        or_true false = refl
+
+        among : (before after : List ℕ) (p : ℕ) → before ++ (p ∷ after) ≡ places → is_taken places p ≡ true
+        among before after p split =
+            let here : nat_eq p p ≡ true = grind (arith, nat_tests) in
+            ap (λ xs. is_taken xs p) (sym split) ∙ list_any-append (nat_eq p) before (p ∷ after) ∙ ap (λ b. list_any (nat_eq p) before || (b || list_any (nat_eq p) after)) here ∙ or_true (list_any (nat_eq p) before)
