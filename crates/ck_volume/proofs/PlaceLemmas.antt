@@ -129,6 +129,16 @@ held_more bytes store (Put key small ∷ xs) x all one = held_more bytes store x
 held_more bytes store (Del key ∷ xs) x all one = held_more bytes store xs x all one
 held_more bytes store (Write n i p ∷ xs) x all one = (all.0, held_more bytes store xs x all.1 one)
 
+pub held_other : (bytes : ℕ → ℕ → List ℕ) (store : Store) (x : Change) → is_write x ≡ false → AreHeld bytes store (x ∷ [])
+held_other bytes store (Put key small) is = tt
+held_other bytes store (Del key) is = tt
+held_other bytes store (Write n i p) is = absurd (false≢true (sym is))
+
+pub not_write : (x : Change) → ((node index place : ℕ) → x ≡ Write node index place → ⊥) → is_write x ≡ false
+not_write (Put key small) other = refl
+not_write (Del key) other = refl
+not_write (Write n i p) other = absurd (other n i p refl)
+
 -- a store elsewhere leaves what the changes wrote
 pub held_kept : (bytes : ℕ → ℕ → List ℕ) (store other : Store) (place : ℕ) → AgreeBut place store other → (done : List Change) (places : List ℕ) → length places ≡ write_count done → is_taken places place ≡ false
     → AreHeld bytes store (with_places done places) → AreHeld bytes other (with_places done places)
@@ -230,15 +240,15 @@ module _ (Held : List Change → Type 0) (t : Table) (old now : List Change) (at
     pub more : List Change
     pub is : placing.rest ≡ x ∷ more
 
-  pub next : (x : Change) → at < length now → get_or now at x ≡ x → Next x
-  next x low got = from placing.rest refl
+  pub next : (x other : Change) → at < length now → get_or now at other ≡ x → Next x
+  next x other low got = from placing.rest refl
     where
       from : (rest : List Change) → placing.rest ≡ rest → Next x
       from [] none =
           let all : length now ≡ at = ap length placing.is ∙ ap (λ xs. length (with_places done places ++ xs)) none ∙ ap length (append-nil (with_places done places)) ∙ long in
           absurd (omega (arith, all, low))
       from (y ∷ more) is =
-          let same : y ≡ x = sym (get_or_at (with_places done places) y more x at long) ∙ ap (λ xs. get_or (with_places done places ++ xs) at x) (sym is) ∙ ap (λ xs. get_or xs at x) (sym placing.is) ∙ got in
+          let same : y ≡ x = sym (get_or_at (with_places done places) y more other at long) ∙ ap (λ xs. get_or (with_places done places ++ xs) at other) (sym is) ∙ ap (λ xs. get_or xs at other) (sym placing.is) ∙ got in
           record { more = more; is = is ∙ ap (λ z. z ∷ more) same }
 
   pub front : take at now ≡ with_places done places
@@ -416,6 +426,16 @@ busy_placing t places blocks later allocated placed pending b busy =
     more true p q h = refl
     more false true q h = refl
     more false false q h = h
+
+-- and what is free now was free before
+pub free_before : (t : Table) (places : List ℕ) (blocks later : Allocation) → IsAllocated t blocks → IsAllocatedBut places t later → later.pending ≡ blocks.pending → (block : ℕ) → IsFree later block → IsFree blocks block
+free_before t places blocks later allocated placed pending block free =
+    let unnamed = free_unnamed t places later block placed free in
+    record {
+      within = subst (λ n. block < n) (placed.total ∙ sym allocated.total) free.within;
+      unused = allocated.used block ∙ ap (λ n. n || false) unnamed.0;
+      settled = ap (λ p. set.contains p block) (sym pending) ∙ free.settled;
+    }
 
 -- each place that was taken is in use
 pub all_used : (t : Table) (places : List ℕ) (blocks : Allocation) → IsAllocatedBut places t blocks → AllByRecursion (λ place. set.contains blocks.used place ≡ true) places

@@ -1,9 +1,12 @@
 -- Data blocks stored in free places, one after the other.
-use Rattle.std.proofs.Common.{◌≡◌, ◌≤◌, ◌⊎◌, inl, inr, ⊎_elim, ℕ, ◌+◌, IsTrue, List, [], ◌∷◌, ◌++◌, set, refl, sym, ap, subst, ◌∙◌, arith}
+use Rattle.std.proofs.Common.{◌≡◌, ◌⊎◌, inl, inr, ⊎_elim, ℕ, ◌+◌, IsTrue, List, [], ◌∷◌, ◌++◌, set, refl, sym, ap, subst, ◌∙◌, arith}
 use Rattle.std.specs.List.{AllByRecursion}
 use Rattle.ck_disk.specs.Disk.{Image, Meaning, Step, TearsAt}
 use Rattle.ck_alloc.specs.Blocks.{Allocation, IsFree}
+use Rattle.ck_volume.specs.declared.fault.Fault.{Fault}
+use Rattle.ck_volume.specs.declared.fault.Fault.TheVariants.{ReadFault, WriteFault, NoMemory}
 use Rattle.ck_volume.specs.Reading.{OnlyReads}
+use Rattle.ck_volume.specs.Writing.{IsWritingFault}
 use Rattle.ck_volume.specs.Storing.{StoredBlock, with_stored, StoredOrSame, LeavesTorn, OnlyStores}
 
 -- ---- images
@@ -116,3 +119,27 @@ stores_on base blocks later old mid new before first second = record {
 -- a read before them
 pub stores_after_read : (base : ℕ) (blocks : Allocation) (old mid new : Meaning) → OnlyReads old mid → OnlyStores base blocks mid new → OnlyStores base blocks old new
 stores_after_read base blocks old mid new reads stores = stores_on base blocks blocks old mid new (λ block free. free) (reads_store base blocks old mid reads) stores
+
+-- a fault after them
+pub fault_after : (base : ℕ) (blocks : Allocation) (old mid new : Meaning) (fault : Fault) → OnlyStores base blocks old mid → IsWritingFault mid new fault → IsWritingFault old new fault
+fault_after base blocks old mid new ReadFault stores rose = omega (arith, stores.reads, rose)
+fault_after base blocks old mid new WriteFault stores rose = omega (arith, stores.writes, rose)
+fault_after base blocks old mid new NoMemory stores rose = tt
+
+-- the faults of a store
+pub after_read_fault : {A : Type 0} (fault : Fault) → fault ≡ ReadFault → ((fault ≡ ReadFault) × A) ⊎ (fault ≡ WriteFault) → A
+after_read_fault fault is (inl read) = read.1
+after_read_fault fault is (inr write) = absurd (clash fault is write)
+  where
+    clash : (fault : Fault) → fault ≡ ReadFault → fault ≡ WriteFault → ⊥
+    clash fault read write = cc
+
+pub never_without_memory : {A : Type 0} (fault : Fault) → fault ≡ NoMemory → ((fault ≡ ReadFault) × A) ⊎ (fault ≡ WriteFault) → ⊥
+never_without_memory fault is (inl read) = clash fault is read.0
+  where
+    clash : (fault : Fault) → fault ≡ NoMemory → fault ≡ ReadFault → ⊥
+    clash fault read write = cc
+never_without_memory fault is (inr write) = clash fault is write
+  where
+    clash : (fault : Fault) → fault ≡ NoMemory → fault ≡ WriteFault → ⊥
+    clash fault read write = cc

@@ -131,7 +131,8 @@ pub fn store_all<M: Meta, D: Disk>(
                 give_back_all(blocks, &changes[..at]);
                 return Err(Fault::ReadFault);
             }
-            Err(fault) => return Err(fault),
+            Err(Fault::WriteFault) => return Err(Fault::WriteFault),
+            Err(Fault::NoMemory) => return Err(Fault::NoMemory),
         }
     }
     Ok(())

@@ -1,5 +1,4 @@
-use Rattle.std.proofs.Common.{◌≡◌, ◌+◌, suc, ◌∷◌, List, drop, drop-cons, sym, ap, subst, ◌∙◌, arith}
-use Rattle.ck_model.specs.declared.change.Change.{Change}
+use Rattle.std.proofs.Common.{◌≡◌, ◌+◌, suc, ◌∷◌, drop, drop-cons, sym, ap, subst, ◌∙◌, arith}
 use Rattle.ck_model.specs.declared.change.Change.TheVariants.{Write}
 use Rattle.ck_volume.proofs.PlaceLemmas.{IsGivingBack, giving-write}
 use Rattle.ck_volume.proofs.placing.give_back_all.Goals as goal

@@ -1,4 +1,4 @@
-use Rattle.std.proofs.Common.{◌≡◌, ◌≤◌, IsTrue, length}
+use Rattle.std.proofs.Common.{◌≡◌, IsTrue}
 use Rattle.ck_model.specs.Standing.{world_on}
 use Rattle.ck_model.specs.World.{Mounts}
 use Rattle.ck_tree.specs.Plan.{block_by}

@@ -1,4 +1,4 @@
-use Rattle.std.proofs.Common.{◌≡◌, ℕ, ◌+◌, ◌-◌, ◌<◌, ◌%◌, Option, List, [], take, drop, refl, sym, ap, subst, ◌∙◌, arith}
+use Rattle.std.proofs.Common.{◌≡◌, ℕ, ◌+◌, ◌-◌, ◌<◌, ◌%◌, Option, List, [], refl, sym, ap, subst, ◌∙◌, arith}
 use Rattle.std.specs.Option.{ForSome, option_and_then}
 use Rattle.std.specs.FinMap as map
 use Rattle.ck_model.specs.declared.call.Call.{Call}
@@ -14,8 +14,6 @@ use Rattle.ck_model.specs.Table.{Table}
 use Rattle.ck_model.proofs.ValuesOf.{get-values_of}
 use Rattle.ck_tree.specs.Plan.{block_by}
 use Rattle.ck_volume.specs.Device.{store_on}
-use Rattle.ck_volume.specs.Reading.{bytes_of}
-use Rattle.ck_volume.specs.Writing.{patched}
 use Rattle.ck_volume.proofs.Ordinary.{if_ok_map}
 use Rattle.ck_volume.proofs.PieceLemmas.{bytes-block, fill-block, same-block, trunc-block}
 use Rattle.ck_volume.specs.Pieces.{IsPiece}
