@@ -4,7 +4,6 @@ pub mod Allocating
 pub mod Room
 pub mod Reading
 pub mod Writing
-pub mod Placing
 pub mod Changing
 pub mod Telling
 pub mod Mounting

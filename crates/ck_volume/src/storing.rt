@@ -8,21 +8,12 @@ ghost use Rattle.ck_volume.specs.Device.{store_on};
 ghost use Rattle.ck_volume.specs.Reading.{bytes_of, IsFilled};
 ghost use Rattle.ck_volume.specs.Writing.{patched, AgreeBut, IsWritingFault};
 ghost use Rattle.ck_volume.specs.Storing.{OnlyStores};
-ghost use Rattle.std.specs.Prelude.{OnOk};
-ghost use Rattle.ck_model.specs.World.{Mounts};
-ghost use Rattle.ck_model.specs.Standing.{world_on};
-ghost use Rattle.ck_push.specs.Growth.{write_count};
-ghost use Rattle.ck_tree.specs.Plan.{IsChanging, block_by};
-ghost use Rattle.ck_volume.specs.Allocating.{IsAllocated, KeepsBusy};
-ghost use Rattle.ck_volume.specs.Placing.{ArePlaced, AreHeld};
-ghost use Rattle.ck_volume.specs.Plain.{IsOurs};
 
 use crate::DataArea;
 use crate::fault::Fault;
 use crate::reading::load;
 use ck_alloc::Blocks;
 use ck_disk::{Block, Disk};
-use ck_model::{Call, Change, Meta};
 
 /// Puts bytes over a part of a block.
 fn patch(block: &mut Block, at: usize, bytes: &[u8])
@@ -98,31 +89,4 @@ pub fn store_block<D: Disk>(
     load(disk, area, kept_of(old, bytes), &mut content)?;
     patch(&mut content, at as usize, bytes);
     put_block(disk, area, blocks, &content)
-}
-
-/// Stores the data blocks that a call's changes write, each in the lowest free place, and names
-/// them in the changes. Where an old block can't be read, the places that were taken are free again.
-pub fn store_all<M: Meta, D: Disk>(
-    meta: &M,
-    blocks: &mut Blocks,
-    disk: &mut D,
-    area: DataArea,
-    call: &Call,
-    changes: &mut [Change],
-) -> Result<(), Fault>
-    requires ours { IsOurs (M.table meta.now) }
-    requires allocated { IsAllocated (M.table meta.now) blocks.old }
-    requires changing { IsChanging call.now }
-    requires free { write_count changes.old ≤ free_count blocks.old }
-    requires blocks_are { area.blocks ≡ (M.table meta.now).blocks }
-    requires area { area.base + area.blocks ≤ (D.means disk.old).size }
-    ensures placed { OnOk result (ArePlaced (M.table meta.now) blocks.new changes.old changes.new) }
-    ensures held { OnOk result (IsTrue (D.means disk.old).tells → (mounts : Mounts) →
-        AreHeld (block_by (world_on (store_on (D.means disk.old).shows area.base) mounts (M.table meta.now)) call.now) (store_on (D.means disk.new).shows area.base) changes.new) }
-    ensures busy { KeepsBusy blocks.old blocks.new }
-    ensures err { IfErr result (λ fault. ((fault ≡ ReadFault) × IsAllocated (M.table meta.now) blocks.new) ⊎ (fault ≡ WriteFault)) }
-    ensures device { OnlyStores area.base blocks.old (D.means disk.old) (D.means disk.new) }
-    ensures fault { IfErr result (IsWritingFault (D.means disk.old) (D.means disk.new)) }
-{
-    Ok(())
 }

@@ -16,7 +16,7 @@ ghost use Rattle.ck_volume.specs.Storing.{OnlyStores};
 ghost use Rattle.ck_volume.specs.Writing.{IsWritingFault};
 
 use crate::applying::change_all;
-use crate::storing::store_all;
+use crate::placing::store_all;
 use crate::{DataArea, Fault};
 use ck_alloc::Blocks;
 use ck_disk::Disk;
