@@ -116,7 +116,7 @@ fn says_why_paths_are_refused(rt: HostRuntime) -> Result<(), Fail> {
     Ok(())
 }
 
-/// Bytes behind the size are zeros when a file grows again.
+/// Bytes behind the size are zeros when a file grows again, up to the greatest size too.
 const SIZES: &[u8] = b"1 make /a
 1 trunc /a 10000
 1 read /a 9998 10
@@ -126,6 +126,15 @@ const SIZES: &[u8] = b"1 make /a
 1 trunc /a 10
 1 trunc /a 20
 1 read /a 8 4
+1 write /a 1073741823 t:x
+1 stat /a
+1 read /a 1073741822 9
+1 read /a 1073741824 1
+1 write /a 1073741824 t:
+1 trunc /a 1073741823
+1 trunc /a 1073741824
+1 read /a 1073741822 9
+1 info
 ";
 
 const SIZES_PRINTED: &[u8] = b"1.1 100 0 make /a = Ok
@@ -137,6 +146,15 @@ const SIZES_PRINTED: &[u8] = b"1.1 100 0 make /a = Ok
 1.7 100 0 trunc /a 10 = Ok
 1.8 100 0 trunc /a 20 = Ok
 1.9 100 0 read /a 8 4 = Ok x:61610000
+1.10 100 0 write /a 1073741823 x:78 = Ok
+1.11 100 0 stat /a = Ok file 1 1073741824
+1.12 100 0 read /a 1073741822 9 = Ok x:0078
+1.13 100 0 read /a 1073741824 1 = Ok x:
+1.14 100 0 write /a 1073741824 x: = Ok
+1.15 100 0 trunc /a 1073741823 = Ok
+1.16 100 0 trunc /a 1073741824 = Ok
+1.17 100 0 read /a 1073741822 9 = Ok x:0000
+1.18 100 0 info = Ok held 2 of 64 records 5 of 256 checkpoints 0
 ";
 
 #[test]
