@@ -21,6 +21,27 @@ use Rattle.ck_volume.specs.Changing.{written_by}
 use Rattle.ck_volume.specs.Placing.{with_places, places_of, AreDistinct, ArePlaced, AreHeld}
 use Rattle.ck_volume.specs.Writing.{AgreeBut}
 
+-- ---- tests
+
+either_left : (a b : Bool) → (a || b) ≡ false → a ≡ false
+either_left false b h = refl
+either_left true b h = absurd (false≢true (sym h))
+
+either_right : (a b : Bool) → (a || b) ≡ false → b ≡ false
+either_right false b h = h
+either_right true b h = absurd (false≢true (sym h))
+
+neither : (a b : Bool) → a ≡ false → b ≡ false → (a || b) ≡ false
+neither false b h k = k
+neither true b h k = absurd (false≢true (sym h))
+
+or_true : (b : Bool) → (b || true) ≡ true
+or_true true = refl
+or_true false = refl
+
+other_way : (a b : ℕ) → nat_eq a b ≡ false → nat_eq b a ≡ false
+other_way a b unlike = grind (arith, nat_tests, unlike)
+
 -- ---- one block
 
 -- a block that is taken is busy, and the others stay as they are
@@ -43,11 +64,9 @@ free_taken blocks left block free after =
 
 -- what a table names is in use, so it isn't free
 pub free_unnamed : (t : Table) (places : List ℕ) (blocks : Allocation) (block : ℕ) → IsAllocatedBut places t blocks → IsFree blocks block → (is_named t block ≡ false) × (is_taken places block ≡ false)
-free_unnamed t places blocks block allocated free = neither (is_named t block) (is_taken places block) (sym (allocated.used block) ∙ free.unused)
-  where
-    neither : (a b : Bool) → (a || b) ≡ false → (a ≡ false) × (b ≡ false)
-    neither true b h = absurd (false≢true (sym h))
-    neither false b h = (refl, h)
+free_unnamed t places blocks block allocated free =
+    let none = sym (allocated.used block) ∙ free.unused in
+    (either_left (is_named t block) (is_taken places block) none, either_right (is_named t block) (is_taken places block) none)
 
 -- one place more at the end
 pub taken_more : (places : List ℕ) (place block : ℕ) → is_taken (places ++ place ∷ []) block ≡ (is_taken places block || nat_eq block place)
@@ -84,22 +103,10 @@ all_more P (y ∷ ys) x all one = (all.0, all_more P ys x all.1 one)
 
 distinct_more : (xs : List ℕ) (x : ℕ) → AreDistinct xs → is_taken xs x ≡ false → AreDistinct (xs ++ x ∷ [])
 distinct_more [] x distinct apart = (refl, tt)
-distinct_more (y ∷ ys) x distinct apart = (taken_more ys x y ∙ both (list_any (nat_eq y) ys) (nat_eq y x) distinct.0 (other (nat_eq x y) refl), distinct_more ys x distinct.1 (rest (nat_eq x y) (is_taken ys x) apart))
-  where
-    both : (a b : Bool) → a ≡ false → b ≡ false → (a || b) ≡ false
-    both false b h k = k
-    both true b h k = absurd (false≢true (sym h))
-
-    rest : (a b : Bool) → (a || b) ≡ false → b ≡ false
-    rest false b h = h
-    rest true b h = absurd (false≢true (sym h))
-
-    first : (a b : Bool) → (a || b) ≡ false → a ≡ false
-    first false b h = refl
-    first true b h = absurd (false≢true (sym h))
-
-    other : (e : Bool) → nat_eq x y ≡ e → nat_eq y x ≡ false
-    other e is = let no : nat_eq x y ≡ false = first (nat_eq x y) (is_taken ys x) apart in grind (arith, nat_tests, no)
+distinct_more (y ∷ ys) x distinct apart = (
+  taken_more ys x y ∙ neither (list_any (nat_eq y) ys) (nat_eq y x) distinct.0 (other_way x y (either_left (nat_eq x y) (is_taken ys x) apart)),
+  distinct_more ys x distinct.1 (either_right (nat_eq x y) (is_taken ys x) apart),
+)
 
 count_more : (done : List Change) (x : Change) → write_count (done ++ x ∷ []) ≡ write_count done + one_if (is_write x)
 count_more [] x = omega arith
@@ -147,23 +154,12 @@ held_kept bytes store other place agree (Put key small ∷ done) places many apa
 held_kept bytes store other place agree (Del key ∷ done) places many apart held = held_kept bytes store other place agree done places (omega (arith, many)) apart held
 held_kept bytes store other place agree (Write n i o ∷ done) [] many apart held = absurd (omega (arith, many))
 held_kept bytes store other place agree (Write n i o ∷ done) (p ∷ places) many apart held = (
-  agree p (unlike (nat_eq place p) refl) ∙ held.0,
-  held_kept bytes store other place agree done places (omega (arith, many)) (rest (nat_eq place p) (is_taken places place) apart) held.1,
+  agree p (unlike (either_left (nat_eq place p) (is_taken places place) apart)) ∙ held.0,
+  held_kept bytes store other place agree done places (omega (arith, many)) (either_right (nat_eq place p) (is_taken places place) apart) held.1,
 )
   where
-    rest : (a b : Bool) → (a || b) ≡ false → b ≡ false
-    rest false b h = h
-    rest true b h = absurd (false≢true (sym h))
-
-    first : (a b : Bool) → (a || b) ≡ false → a ≡ false
-    first false b h = refl
-    first true b h = absurd (false≢true (sym h))
-
-    unlike : (e : Bool) → nat_eq place p ≡ e → p ≢ place
-    unlike e is same =
-        let no : nat_eq place p ≡ false = first (nat_eq place p) (is_taken places place) apart in
-        let yes : nat_eq place p ≡ true = grind (arith, nat_tests, same) in
-        false≢true (sym no ∙ yes)
+    unlike : nat_eq place p ≡ false → p ≢ place
+    unlike apart same = let tied : nat_eq place p ≡ true = grind (arith, nat_tests, same) in false≢true (sym apart ∙ tied)
 
 -- ---- the data blocks that changes write
 
@@ -376,42 +372,31 @@ giving-write first all node index place rest blocks left after partition giving 
 
     still : (places : List ℕ) → list_any (nat_eq place) places ≡ false → AllByRecursion (λ p. set.contains blocks.used p ≡ true) places → AllByRecursion (λ p. set.contains left.used p ≡ true) places
     still [] apart held = tt
-    still (p ∷ places) apart held = (contains p ∙ (λ i. not (unlike i) && held.0 i), still places (rest_of (nat_eq place p) (list_any (nat_eq place) places) apart) held.1)
-      where
-        rest_of : (a b : Bool) → (a || b) ≡ false → b ≡ false
-        rest_of false b h = h
-        rest_of true b h = absurd (false≢true (sym h))
-
-        first_of_two : (a b : Bool) → (a || b) ≡ false → a ≡ false
-        first_of_two false b h = refl
-        first_of_two true b h = absurd (false≢true (sym h))
-
-        unlike : nat_eq p place ≡ false
-        unlike = let no : nat_eq place p ≡ false = first_of_two (nat_eq place p) (list_any (nat_eq place) places) apart in grind (arith, nat_tests, no)
+    still (p ∷ places) apart held =
+        let unlike : nat_eq p place ≡ false = other_way place p (either_left (nat_eq place p) (list_any (nat_eq place) places) apart) in (
+          contains p ∙ (λ i. not (unlike i) && held.0 i),
+          still places (either_right (nat_eq place p) (list_any (nat_eq place) places) apart) held.1,
+        )
 
 -- once all are given back, what the table names is in use, and nothing else
 pub given-back : (t : Table) (places : List ℕ) (blocks left : Allocation) → IsAllocatedBut places t blocks → AllByRecursion (λ place. is_named t place ≡ false) places
     → ((block : ℕ) → set.contains left.used block ≡ (set.contains blocks.used block && not (is_taken places block))) → left.total ≡ blocks.total → IsPartition left → IsAllocated t left
 given-back t places blocks left allocated unnamed used total partition = record {
   total = total ∙ allocated.total;
-  used = λ b. used b ∙ ap (λ u. u && not (is_taken places b)) (allocated.used b) ∙ only (is_named t b) (is_taken places b) refl (λ named. apart places b unnamed named);
+  used = λ b. used b ∙ ap (λ u. u && not (is_taken places b)) (allocated.used b) ∙ only (is_named t b) (is_taken places b) (λ named. apart places b unnamed named);
   partition = partition;
 }
   where
-    only : (n p : Bool) → (p ≡ p) → (n ≡ true → p ≡ false) → ((n || p) && not p) ≡ (n || false)
-    only true true same h = absurd (false≢true (sym (h refl)))
-    only true false same h = refl
-    only false true same h = refl
-    only false false same h = refl
+    only : (n p : Bool) → (n ≡ true → p ≡ false) → ((n || p) && not p) ≡ (n || false)
+    only true true h = absurd (false≢true (sym (h refl)))
+    only true false h = refl
+    only false true h = refl
+    only false false h = refl
 
     apart : (places : List ℕ) (b : ℕ) → AllByRecursion (λ place. is_named t place ≡ false) places → is_named t b ≡ true → is_taken places b ≡ false
     apart [] b all named = refl
     apart (p ∷ places) b all named = neither (nat_eq b p) (is_taken places b) (unlike (nat_eq b p) refl) (apart places b all.1 named)
       where
-        neither : (a c : Bool) → a ≡ false → c ≡ false → (a || c) ≡ false
-        neither false c h k = k
-        neither true c h k = absurd (false≢true (sym h))
-
         unlike : (e : Bool) → nat_eq b p ≡ e → nat_eq b p ≡ false
         unlike false is = is
         unlike true is = let same : b ≡ p = grind (arith, nat_tests, is) in absurd (false≢true (sym all.0 ∙ ap (is_named t) (sym same) ∙ named))
@@ -445,10 +430,6 @@ all_used t places blocks allocated = below [] places refl
     below before [] split = tt
     below before (p ∷ after) split = (allocated.used p ∙ ap (λ b. is_named t p || b) (among before after p split) ∙ or_true (is_named t p), below (before ++ p ∷ []) after (append_assoc before (p ∷ []) after ∙ split))
       where
-        or_true : (b : Bool) → (b || true) ≡ true
-        or_true true = refl
-        or_true false = refl
-
         among : (before after : List ℕ) (p : ℕ) → before ++ (p ∷ after) ≡ places → is_taken places p ≡ true
         among before after p split =
             let here : nat_eq p p ≡ true = grind (arith, nat_tests) in

@@ -68,7 +68,14 @@ fn store_changed<M: Meta, D: Disk>(
         Call::Fill(_, place, len, byte) => {
             let piece = piece_of(*place, u64::from(*len), index);
             let all = filled(*byte);
-            store_block(disk, area, blocks, old, piece.at, &all[..piece.count as usize])
+            store_block(
+                disk,
+                area,
+                blocks,
+                old,
+                piece.at,
+                &all[..piece.count as usize],
+            )
         }
         Call::Trunc(_, size) => {
             let kept = *size % BLOCK;

@@ -60,8 +60,8 @@ loop-at-preserved g c =
           let mid_told : IsTrue mid.tells = subst IsTrue (sym inv.device.tells) told in
           let bytes : ℕ → ℕ → List ℕ = block_by (world_on (store_on old.shows base) mounts t) call in
           let same : SameNamed t (store_on mid.shows base) (store_on old.shows base) = λ block named.
-              sym (kept_there base c.args.blocks.now old.shows mid.shows block (inv.device.shows told)
-              (ap (λ b. b || set.contains c.args.blocks.now.pending block) (c.requires.allocated.used block ∙ ap (λ b. b || false) named))) in
+          sym (kept_there base c.args.blocks.now old.shows mid.shows block (inv.device.shows told)
+          (ap (λ b. b || set.contains c.args.blocks.now.pending block) (c.requires.allocated.used block ∙ ap (λ b. b || false) named))) in
           let stored : store_on new.shows base place ≡ bytes c.in-Write.node c.in-Write.index =
           e.stored mid_told mounts ∙ ap (λ (w : World). block_by w call c.in-Write.node c.in-Write.index) (world_same t mounts (store_on mid.shows base) (store_on old.shows base) same) in
           held_more bytes (store_on new.shows base) (with_places p.done p.places) (Write c.in-Write.node c.in-Write.index place)
@@ -86,10 +86,10 @@ give_back_all-requires-clause-used g c =
     (subst (AllByRecursion (λ place. set.contains c.loop-at.blocks.used place ≡ true)) (sym places) (all_used t p.places c.loop-at.blocks p.allocated))
 
 -- what the table names is in use again, and nothing else
-after_read : (t : Table) (all written : List Change) (first mid same left : Allocation) (places : List ℕ) → IsAllocated t first → IsAllocatedBut places t mid → mid.pending ≡ first.pending → AllByRecursion (λ place. is_named t place ≡ false) places
+after_read : (t : Table) (written : List Change) (first mid same left : Allocation) (places : List ℕ) → IsAllocated t first → IsAllocatedBut places t mid → mid.pending ≡ first.pending → AllByRecursion (λ place. is_named t place ≡ false) places
     → same ≡ mid → places_of written ≡ places → ((block : ℕ) → set.contains left.used block ≡ (set.contains same.used block && not (is_taken (places_of written) block))) → left.pending ≡ same.pending → left.total ≡ same.total → IsPartition left
     → IsAllocated t left × (left.pending ≡ first.pending)
-after_read t all written first mid same left places allocated placed pending unnamed is are used still total partition = (
+after_read t written first mid same left places allocated placed pending unnamed is are used still total partition = (
   given-back t places mid left placed unnamed
       (λ b. used b ∙ (λ i. set.contains (is i).used b && not (is_taken (are i) b)))
       (total ∙ ap (λ (a : Allocation). a.total) is) partition,
@@ -104,7 +104,7 @@ returns-in-Err-ReadFault-clause-busy g c =
     let places = ap places_of (front _ t c.args.changes.now c.loop-at.changes c.loop-at.at c.loop-at.blocks p) ∙ places-with_places p.done p.places p.many in
     let same : c.store_changed.new.blocks ≡ c.loop-at.blocks = after_read_fault c.in-Err-ReadFault.field-0 c.in-Err-ReadFault.field-0-is c.in-Err-ReadFault.ensures.err in
     let e = c.give_back_all.ensures in
-    let after = after_read t c.args.changes.now (take c.loop-at.at c.loop-at.changes) c.args.blocks.now c.loop-at.blocks c.store_changed.new.blocks c.give_back_all.new.blocks p.places c.requires.allocated p.allocated inv.pending p.unnamed same places e.used e.pending e.total e.partition in
+    let after = after_read t (take c.loop-at.at c.loop-at.changes) c.args.blocks.now c.loop-at.blocks c.store_changed.new.blocks c.give_back_all.new.blocks p.places c.requires.allocated p.allocated inv.pending p.unnamed same places e.used e.pending e.total e.partition in
     busy_placing t [] c.args.blocks.now c.give_back_all.new.blocks c.requires.allocated after.0 after.1
 
 pub returns-in-Err-ReadFault-clause-err : goal.returns-in-Err-ReadFault-clause-err
@@ -115,7 +115,7 @@ returns-in-Err-ReadFault-clause-err g c =
     let places = ap places_of (front _ t c.args.changes.now c.loop-at.changes c.loop-at.at c.loop-at.blocks p) ∙ places-with_places p.done p.places p.many in
     let same : c.store_changed.new.blocks ≡ c.loop-at.blocks = after_read_fault c.in-Err-ReadFault.field-0 c.in-Err-ReadFault.field-0-is c.in-Err-ReadFault.ensures.err in
     let e = c.give_back_all.ensures in
-    let after = after_read t c.args.changes.now (take c.loop-at.at c.loop-at.changes) c.args.blocks.now c.loop-at.blocks c.store_changed.new.blocks c.give_back_all.new.blocks p.places c.requires.allocated p.allocated inv.pending p.unnamed same places e.used e.pending e.total e.partition in
+    let after = after_read t (take c.loop-at.at c.loop-at.changes) c.args.blocks.now c.loop-at.blocks c.store_changed.new.blocks c.give_back_all.new.blocks p.places c.requires.allocated p.allocated inv.pending p.unnamed same places e.used e.pending e.total e.partition in
     inl (refl, after.0)
 
 pub returns-in-Err-ReadFault-clause-device : goal.returns-in-Err-ReadFault-clause-device
