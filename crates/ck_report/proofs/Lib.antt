@@ -1,2 +1,6 @@
 pub mod CallLemmas
 pub mod ListingLemmas
+pub mod Splitting
+pub mod Forms
+pub mod Replies
+pub mod Telling

@@ -3,3 +3,4 @@ pub mod Transcript
 pub mod Status
 pub mod Places
 pub mod Listing
+pub mod Printed
