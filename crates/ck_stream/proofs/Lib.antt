@@ -8,4 +8,5 @@ pub mod HeaderLaws
 pub mod StreamLaws
 pub mod Merges
 pub mod MergeLaws
+pub mod ByKeyLaws
 pub mod Backups
