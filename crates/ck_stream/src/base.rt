@@ -33,6 +33,21 @@ impl Model for Base {
     ghost view = { λ base. record { id = base.id; items = records base.items.entries } };
 }
 
+/// Whether the changes are from the checkpoint with this id on.
+pub fn fits(id: u32, changed: &Changed) -> Result<(), ApplyFault>
+    ensures fit { IfOk result (λ _. id ≡ changed.now.from) }
+    ensures wrong_base { IfErr result (λ fault. (id ≢ changed.now.from)
+        × (fault ≡ faults.WrongBase id changed.now.from)) }
+{
+    if id != changed.from {
+        return Err(ApplyFault::WrongBase {
+            has: id,
+            wants: changed.from,
+        });
+    }
+    Ok(())
+}
+
 /// Makes one change.
 fn set(items: &mut BTreeMap<Key, Payload>, change: Item) -> Result<(), NoMemory>
     ensures held { OnOk result ((key : Key) → held_at items.new key
@@ -90,6 +105,23 @@ impl Base {
         Ok(Base { id: full.id, items })
     }
 
+    /// What it is after all these changes, which are from this very checkpoint on.
+    pub(crate) fn later(self, changed: Changed) -> Result<Base, NoMemory>
+        requires full { IsFull self }
+        requires changed { IsChanged changed }
+        ensures right { IfOk result IsFull }
+        ensures id { IfOk result (λ later. later.id ≡ changed.to) }
+        ensures items { IfOk result (λ later. contents later.items
+            ≡ applied (contents self.items) (changes changed.items)) }
+    {
+        let mut items = self.items;
+        set_all(&mut items, changed.items.into_vec())?;
+        Ok(Base {
+            id: changed.to,
+            items,
+        })
+    }
+
     /// The later checkpoint, from the earlier one and what changed between them. The earlier one is
     /// dropped where this isn't possible.
     pub fn apply(self, changed: Changed) -> Result<Base, ApplyFault>
@@ -105,18 +137,8 @@ impl Base {
         // Where they don't, only memory may be wanting.
         ensures fits { self.id ≡ changed.from → IfErr result (λ fault. fault ≡ faults.NoMemory) }
     {
-        let Base { id, mut items } = self;
-        if id != changed.from {
-            return Err(ApplyFault::WrongBase {
-                has: id,
-                wants: changed.from,
-            });
-        }
-        set_all(&mut items, changed.items.into_vec())?;
-        Ok(Base {
-            id: changed.to,
-            items,
-        })
+        fits(self.id, &changed)?;
+        Ok(self.later(changed)?)
     }
 
     pub fn into_full(self, alloc: Global) -> Result<Full, NoMemory>
