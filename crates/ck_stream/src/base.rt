@@ -83,10 +83,7 @@ fn set_all(items: &mut BTreeMap<Key, Payload>, list: Vec<Item>) -> Result<(), No
     Ok(())
 }
 
-fn put_all(
-    out: &mut Vec<Item>,
-    items: BTreeMap<Key, Payload>,
-) -> Result<(), NoMemory>
+fn put_all(out: &mut Vec<Item>, items: BTreeMap<Key, Payload>) -> Result<(), NoMemory>
     ensures { OnOk result (out.new.items ≡ out.old.items ++ records items.entries) }
 {
     for (key, payload) in items {

@@ -2,7 +2,6 @@ use Rattle.std.proofs.Common.{◌≡◌, ◌∷◌, [], List, length, sym, ap, s
 use Rattle.std.specs.Option.{unwrap_or}
 use Rattle.std.specs.FinMap.{find}
 use Rattle.std.specs.Vec.Iter.{into_iter_items}
-use Rattle.ck_model.specs.declared.key.Key.{Key}
 use Rattle.ck_model.specs.Key.{key_cmp}
 use Rattle.ck_stream.specs.declared.item.Item.{Item}
 use Rattle.ck_stream.specs.Right.{AreItems, changes}

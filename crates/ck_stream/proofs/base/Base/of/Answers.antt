@@ -1,6 +1,5 @@
-use Rattle.std.proofs.Common.{◌≡◌, List, sym, ap, ◌∙◌}
+use Rattle.std.proofs.Common.{◌∙◌}
 use Rattle.ck_model.specs.Streams.{applied}
-use Rattle.ck_stream.specs.declared.item.Item.{Item}
 use Rattle.ck_stream.specs.Right.{contents, changes}
 use Rattle.ck_stream.specs.ByKey.{records}
 use Rattle.ck_stream.proofs.ByKeyLaws.{all_put}
