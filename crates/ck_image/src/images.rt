@@ -5,7 +5,7 @@ ghost use Rattle.ck_image.specs.declared.refusal.Refusal.TheVariants as refusals
 ghost use Rattle.ck_image.specs.Images.{Answers, refused_stream, stream_in, whole_in, full_in, changed_in, applied_once, next_in, changes_in, applied_in};
 
 use crate::refusal::Refusal;
-use ck_stream::{ApplyFault, Changed, Full, Stream, StreamFault, apply, read_stream};
+use ck_stream::{ApplyFault, Base, Changed, Full, Stream, StreamFault, read_stream};
 use std::alloc::Global;
 
 fn refused(fault: StreamFault) -> Refusal
@@ -76,13 +76,13 @@ fn changed_of(alloc: Global, bytes: &[u8], at: usize) -> Result<(Changed, usize)
 }
 
 /// The later checkpoint, if what changed is from this one on.
-fn apply_one(alloc: Global, full: Full, changed: &Changed) -> Result<Full, Refusal>
-    requires full { IsFull full }
-    requires changed { IsChanged changed.now }
-    ensures read { Answers (λ later. later) result (applied_once full changed.now) }
+fn apply_one(base: Base, changed: Changed) -> Result<Base, Refusal>
+    requires full { IsFull base }
+    requires changed { IsChanged changed }
+    ensures read { Answers (λ later. later) result (applied_once base changed) }
     ensures right { IfOk result IsFull }
 {
-    match apply(alloc, full, changed) {
+    match base.apply(changed) {
         Ok(later) => Ok(later),
         Err(ApplyFault::WrongBase { has, wants }) => Err(Refusal::WrongBase { has, wants }),
         Err(ApplyFault::NoMemory) => Err(Refusal::NoMemory),
@@ -90,35 +90,48 @@ fn apply_one(alloc: Global, full: Full, changed: &Changed) -> Result<Full, Refus
 }
 
 #[tactic(auto, unfolding(crate::specs::Images::next_in))]
-fn next(alloc: Global, bytes: &[u8], full: Full, at: usize) -> Result<(Full, usize), Refusal>
+fn next(alloc: Global, bytes: &[u8], base: Base, at: usize) -> Result<(Base, usize), Refusal>
     requires within { at ≤ length bytes.now }
-    requires full { IsFull full }
-    ensures read { Answers (λ read. read) result (next_in bytes.now full at) }
+    requires full { IsFull base }
+    ensures read { Answers (λ read. read) result (next_in bytes.now base at) }
     ensures right { IfOk result (λ read. IsFull read.0) }
     ensures within { IfOk result (λ read. read.1 ≤ length bytes.now) }
 {
     let (changed, end) = changed_of(alloc, bytes, at)?;
-    let later = apply_one(alloc, full, &changed)?;
+    let later = apply_one(base, changed)?;
     Ok((later, end))
 }
 
 /// Applies the changed streams from a place on.
-fn apply_all(alloc: Global, bytes: &[u8], full: Full, at: usize) -> Result<Full, Refusal>
+fn apply_all(alloc: Global, bytes: &[u8], base: Base, at: usize) -> Result<Base, Refusal>
     requires within { at ≤ length bytes.now }
-    requires full { IsFull full }
-    ensures read { Answers (λ full. full) result (changes_in (length bytes.now) bytes.now full at) }
+    requires full { IsFull base }
+    ensures read { Answers (λ full. full) result (changes_in (length bytes.now) bytes.now base at) }
     ensures right { IfOk result IsFull }
 {
-    let mut full = full;
+    let mut base = base;
     let mut at = at;
     // Each stream has bytes.
     for _ in 0..bytes.len() {
         if at == bytes.len() {
-            return Ok(full);
+            return Ok(base);
         }
-        (full, at) = next(alloc, bytes, full, at)?;
+        (base, at) = next(alloc, bytes, base, at)?;
     }
-    Ok(full)
+    Ok(base)
+}
+
+/// The full stream at the beginning, with its records by their keys.
+fn base_of(alloc: Global, bytes: &[u8]) -> Result<(Base, usize), Refusal>
+    ensures read { Answers (λ read. read) result (full_in bytes.now) }
+    ensures right { IfOk result (λ read. IsFull read.0) }
+    ensures within { IfOk result (λ read. read.1 ≤ length bytes.now) }
+{
+    let (full, end) = full_of(alloc, bytes)?;
+    match Base::of(alloc, full) {
+        Ok(base) => Ok((base, end)),
+        Err(_) => Err(Refusal::NoMemory),
+    }
 }
 
 /// The full stream at the beginning, with all changed ones behind it applied.
@@ -127,6 +140,10 @@ pub fn applied(alloc: Global, bytes: &[u8]) -> Result<Full, Refusal>
     ensures read { Answers (λ full. full) result (applied_in bytes.now) }
     ensures right { IfOk result IsFull }
 {
-    let (full, at) = full_of(alloc, bytes)?;
-    apply_all(alloc, bytes, full, at)
+    let (base, at) = base_of(alloc, bytes)?;
+    let later = apply_all(alloc, bytes, base, at)?;
+    match later.into_full(alloc) {
+        Ok(full) => Ok(full),
+        Err(_) => Err(Refusal::NoMemory),
+    }
 }

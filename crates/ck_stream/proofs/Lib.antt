@@ -6,6 +6,5 @@ pub mod RecordLaws
 pub mod ItemsLaws
 pub mod HeaderLaws
 pub mod StreamLaws
-pub mod Merges
-pub mod MergeLaws
+pub mod ByKeyLaws
 pub mod Backups

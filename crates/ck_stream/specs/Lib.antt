@@ -1,6 +1,6 @@
 pub mod Spelling
 pub mod Right
 pub mod Reading
-pub mod Merging
+pub mod ByKey
 pub mod Texts
 pub mod Laws

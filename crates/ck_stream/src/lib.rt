@@ -2,6 +2,7 @@
 #![tactic(auto)]
 
 mod applying;
+mod base;
 mod fault;
 mod fields;
 mod header;
@@ -15,6 +16,7 @@ mod tag;
 mod writing;
 
 pub use applying::apply;
+pub use base::Base;
 pub use fault::{ApplyFault, StreamFault};
 pub use item::{Item, Items};
 pub use laws::{backups_apply, none_begins_another};

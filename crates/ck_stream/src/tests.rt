@@ -186,6 +186,20 @@ fn changes_are_applied(rt: HostRuntime) -> Result<(), Fail> {
 }
 
 #[test]
+fn changes_are_applied_by_keys(rt: HostRuntime) -> Result<(), Fail> {
+    let alloc = rt.alloc();
+    let earlier = with_block(alloc, &EARLIER_HEAD, &EARLIER_TAIL)?;
+    let changes = with_block(alloc, &CHANGES_HEAD, &CHANGES_TAIL)?;
+    let full = full_in(alloc, &earlier).ok_or("a full stream")?;
+    let changed = changed_in(alloc, &changes).ok_or("a changed stream")?;
+    let later = Base::of(alloc, full)?.apply(changed)?.into_full(alloc)?;
+    let written = write_full(alloc, &later)?;
+    let expected = with_block(alloc, &LATER_HEAD, &LATER_TAIL)?;
+    assert_eq!(rt; written.as_slice(), expected.as_slice());
+    Ok(())
+}
+
+#[test]
 fn laws_hold() {
     none_begins_another();
     backups_apply();

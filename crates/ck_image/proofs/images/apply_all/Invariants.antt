@@ -5,7 +5,7 @@ use Rattle.ck_image.proofs.images.apply_all.Given as goal
 
 abbrev pub invariant-loop : goal.invariant-loop
 invariant-loop l = record {
-  made : changes_in (length l.bytes - l.counter) l.bytes l.full l.at ≡ changes_in (length l.bytes) l.bytes l.initial.full l.initial.at;
-  right : IsFull l.full;
+  made : changes_in (length l.bytes - l.counter) l.bytes l.base l.at ≡ changes_in (length l.bytes) l.bytes l.initial.base l.initial.at;
+  right : IsFull l.base;
   within : l.at ≤ length l.bytes;
 }
