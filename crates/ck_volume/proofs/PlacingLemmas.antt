@@ -210,7 +210,7 @@ module _ (t : Table) (next : Counters) (blocks : ℕ) (ours : IsOurs t) (stamp :
   may_all (Write node index block ∷ changes) (place ∷ places) may differ many distinct are = (
     may_write node index block place may.0 are.0,
     apart_all (Write node index place) changes places (recursion_from_All (λ other. key_of other ≢ Block node index) changes differ.0)
-    (λ other is. let one : place ≡ other = cc in subst (λ b. is_taken places b ≡ false) one distinct.0) (omega (arith, many)),
+        (λ other is. let one : place ≡ other = cc in subst (λ b. is_taken places b ≡ false) one distinct.0) (omega (arith, many)),
     may_all changes places may.1 differ.1 (omega (arith, many)) distinct.1 are.1,
   )
 
@@ -404,12 +404,11 @@ held_from bytes store first [] = tt
 held_from bytes store first (Put key small ∷ changes) = held_from bytes store first changes
 held_from bytes store first (Del key ∷ changes) = held_from bytes store first changes
 held_from bytes store first (Write node index block ∷ changes) =
-    let here : nat_eq first first ≡ true = grind (arith, nat_tests) in
-    (
+    let here : nat_eq first first ≡ true = grind (arith, nat_tests) in (
       ap (λ b. if b then bytes node index else holding bytes store (suc first) changes first) here,
       held_alike bytes (holding bytes store (suc first) changes) (holding bytes store first (Write node index block ∷ changes)) (suc first) changes
-      (λ b past. let apart : nat_eq b first ≡ false = grind (arith, nat_tests, past) in ap (λ e. if e then bytes node index else holding bytes store (suc first) changes b) apart)
-      (held_from bytes store (suc first) changes),
+          (λ b past. let apart : nat_eq b first ≡ false = grind (arith, nat_tests, past) in ap (λ e. if e then bytes node index else holding bytes store (suc first) changes b) apart)
+          (held_from bytes store (suc first) changes),
     )
 
 few_writes : (changes : List Change) → write_count changes ≤ length changes

@@ -36,8 +36,7 @@ pub returns-in-Some : goal.returns-in-Some
 returns-in-Some g c =
     let t = g.M.Meta.table c.args.meta.now in
     let writes : c.cost-cost.result.blocks ≡ write_count c.in-Ok.changes.items = c.cost-cost.ensures.blocks ∙ ap write_count c.deref.ensures.value in
-    let grows : c.cost-cost.result.records ≡ gains t c.in-Ok.changes.items - losses t c.in-Ok.changes.items = c.cost-cost.ensures.records ∙ ap (λ items. gains t items - losses t items) c.deref.ensures.value in
-    (
+    let grows : c.cost-cost.result.records ≡ gains t c.in-Ok.changes.items - losses t c.in-Ok.changes.items = c.cost-cost.ensures.records ∙ ap (λ items. gains t items - losses t items) c.deref.ensures.value in (
       lack-ordinary t c.cost-cost.result.blocks c.cost-cost.result.records c.in-Some.reply c.in-Some.ensures.1,
       λ store mounts.
           planned-full store mounts t c.args.call.now c.in-Ok.changes.items c.requires.files.ours c.in-Ok.ensures.plan c.cost-cost.result.blocks c.cost-cost.result.records c.in-Some.reply

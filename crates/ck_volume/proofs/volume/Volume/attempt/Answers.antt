@@ -20,26 +20,26 @@ returns-in-Make-clause-ok g c =
     let w = world_of (g.D.Disk.means volume.disk).shows volume in
     let P = Changes texts w c.args.actor c.args.moment in
     let changes : P c.args.call.now = elim c.in-Make.is [
+      | inl is ↦ subst P (sym is.1) refl
+      | inr rest ↦ elim rest [
         | inl is ↦ subst P (sym is.1) refl
         | inr rest ↦ elim rest [
           | inl is ↦ subst P (sym is.1) refl
           | inr rest ↦ elim rest [
             | inl is ↦ subst P (sym is.1) refl
             | inr rest ↦ elim rest [
-              | inl is ↦ subst P (sym is.1) refl
+              | inl is ↦ subst P (sym is.2) refl
               | inr rest ↦ elim rest [
-                | inl is ↦ subst P (sym is.2) refl
+                | inl is ↦ subst P (sym is.3) refl
                 | inr rest ↦ elim rest [
-                  | inl is ↦ subst P (sym is.3) refl
-                  | inr rest ↦ elim rest [
-                    | inl is ↦ subst P (sym is.4) refl
-                    | inr is ↦ subst P (sym is.2) refl
-                  ]
+                  | inl is ↦ subst P (sym is.4) refl
+                  | inr is ↦ subst P (sym is.2) refl
                 ]
               ]
             ]
           ]
         ]
-      ] in
+      ]
+    ] in
     changes ∙ ok told)
     c.change.ensures.ok
