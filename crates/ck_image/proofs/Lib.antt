@@ -1,3 +1,4 @@
 pub mod Later
 pub mod Rounds
 pub mod TooLong
+pub mod Told

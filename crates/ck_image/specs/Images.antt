@@ -11,8 +11,10 @@ use Rattle.ck_stream.specs.declared.stream.Full.{Full}
 use Rattle.ck_stream.specs.declared.stream.Changed.{Changed}
 use Rattle.ck_stream.specs.declared.stream.Stream.{Stream}
 use Rattle.ck_stream.specs.declared.stream.Stream.TheVariants as stream
+use Rattle.ck_stream.specs.declared.stream.Summary.{Summary}
 use Rattle.ck_stream.specs.Right.{contents, changes}
 use Rattle.ck_stream.specs.Reading.{◌>>=◌, stream_at}
+use Rattle.ck_stream.specs.Seen.{summary_of}
 use Rattle.ck_image.specs.declared.refusal.Refusal.{Refusal}
 use Rattle.ck_image.specs.declared.refusal.Refusal.TheVariants as refusal
 
@@ -53,6 +55,10 @@ all_of bytes read = if nat_eq read.1 (length bytes) then Ok read.0 else Err (wro
 
 unfoldable pub whole_in : List ℕ → Result Stream Refusal
 whole_in bytes = stream_in bytes 0 >>= λ read. all_of bytes read
+
+-- what is told of it
+abbrev pub told : Result Stream Refusal → Result Summary Refusal
+told read = read >>= λ s. Ok (summary_of s)
 
 -- ---- a full stream, and changed ones behind it
 

@@ -6,6 +6,9 @@ use Rattle.ck_stream.specs.declared.fault.StreamFault.{StreamFault}
 use Rattle.ck_stream.specs.declared.fault.StreamFault.TheVariants as fault
 use Rattle.ck_stream.specs.declared.stream.Stream.{Stream}
 use Rattle.ck_stream.specs.declared.stream.Stream.TheVariants as stream
+use Rattle.ck_stream.specs.declared.stream.Summary.{Summary}
+use Rattle.ck_stream.specs.declared.tag.Header.{Header}
+use Rattle.ck_stream.specs.declared.tag.Header.TheVariants as header
 use Rattle.ck_stream.specs.Spelling.{items_of, text}
 use Rattle.ck_stream.specs.Reading.{◌>>=◌}
 use Rattle.ck_image.specs.declared.refusal.Refusal.{Refusal}
@@ -30,6 +33,15 @@ kind_words (stream.Changed changed) =
 -- the line that says what a stream is
 abbrev pub stream_line : Stream → List ℕ
 stream_line s = kind_words s ++ codes " records" ++ number_words (length (items_of s)) ++ 10 ∷ []
+
+-- the same of what is told of a stream
+abbrev pub header_words : Header → List ℕ
+header_words (header.Full id) = codes "full" ++ number_words id
+header_words (header.Changed earlier later) =
+    codes "changed" ++ number_words earlier ++ number_words later
+
+abbrev pub summary_line : Summary → List ℕ
+summary_line told = header_words told.header ++ codes " records" ++ number_words told.records ++ 10 ∷ []
 
 abbrev pub fault_words : StreamFault → List ℕ
 fault_words (fault.NotStream place) = codes "NotStream" ++ number_words place

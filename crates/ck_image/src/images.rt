@@ -2,10 +2,13 @@ ghost use Rattle.std.specs.Prelude.{◌≡◌, ◌≤◌, length, IfOk};
 ghost use Rattle.ck_stream.specs.declared.fault.StreamFault.TheVariants as faults;
 ghost use Rattle.ck_stream.specs.Right.{IsFull, IsChanged, IsStream};
 ghost use Rattle.ck_image.specs.declared.refusal.Refusal.TheVariants as refusals;
-ghost use Rattle.ck_image.specs.Images.{Answers, refused_stream, stream_in, whole_in, full_in, changed_in, applied_once, next_in, changes_in, applied_in};
+ghost use Rattle.ck_stream.specs.Seen.{seen};
+ghost use Rattle.ck_image.specs.Images.{Answers, told, refused_stream, stream_in, whole_in, full_in, changed_in, applied_once, next_in, changes_in, applied_in};
 
 use crate::refusal::Refusal;
-use ck_stream::{ApplyFault, Base, Changed, Full, Stream, StreamFault, read_stream};
+use ck_stream::{
+    ApplyFault, Base, Changed, Full, Stream, StreamFault, Summary, read_stream, verify_stream,
+};
 use std::alloc::Global;
 
 fn refused(fault: StreamFault) -> Refusal
@@ -36,16 +39,25 @@ fn stream_of(alloc: Global, bytes: &[u8], at: usize) -> Result<(Stream, usize), 
     }
 }
 
-/// The one stream that the bytes are.
-#[tactic(auto, unfolding(crate::specs::Images::whole_in))]
-pub fn whole(alloc: Global, bytes: &[u8]) -> Result<Stream, Refusal>
-    ensures { Answers (λ read. read) result (whole_in bytes.now) }
+/// What is told of the stream at the beginning, and the place behind it.
+fn summary_of(alloc: Global, bytes: &[u8]) -> Result<(Summary, usize), Refusal>
+    ensures { Answers (λ read. read) result (seen (stream_in bytes.now 0)) }
 {
-    let (stream, end) = stream_of(alloc, bytes, 0)?;
+    match verify_stream(alloc, bytes, 0) {
+        Ok(read) => Ok(read),
+        Err(fault) => Err(refused(fault)),
+    }
+}
+
+/// What is told of the one stream that the bytes are.
+pub fn whole(alloc: Global, bytes: &[u8]) -> Result<Summary, Refusal>
+    ensures { Answers (λ told. told) result (told (whole_in bytes.now)) }
+{
+    let (summary, end) = summary_of(alloc, bytes)?;
     if end != bytes.len() {
         return Err(not_stream(end));
     }
-    Ok(stream)
+    Ok(summary)
 }
 
 #[tactic(auto, unfolding(crate::specs::Images::full_in))]

@@ -1,14 +1,13 @@
-ghost use Rattle.std.specs.Prelude.{◌≡◌, ◌++◌, length, OnOk, IfOk};
-ghost use Rattle.ck_stream.specs.Spelling.{items_of};
+ghost use Rattle.std.specs.Prelude.{◌≡◌, ◌++◌, OnOk, IfOk};
 ghost use Rattle.ck_image.specs.declared.command.Command.TheVariants.{Verify, Apply};
 ghost use Rattle.ck_image.specs.Images.{Answers};
-ghost use Rattle.ck_image.specs.Texts.{number_words, digest_words, kind_words, stream_line, fault_words, refusal_words, made_of, printed};
+ghost use Rattle.ck_image.specs.Texts.{number_words, digest_words, header_words, summary_line, fault_words, refusal_words, made_of, printed};
 
 use crate::command::Command;
 use crate::images::{applied, whole};
 use crate::refusal::Refusal;
 use ck_model::NoMemory;
-use ck_stream::{Stream, StreamFault, write_full};
+use ck_stream::{Header, StreamFault, Summary, write_full};
 use ck_text::{put_decimal, put_hex};
 use std::alloc::Global;
 
@@ -36,37 +35,28 @@ fn put_digest(out: &mut Vec<u8>, digest: &[u8; 32]) -> Result<(), NoMemory>
     put_hex(out, digest)
 }
 
-fn put_kind(out: &mut Vec<u8>, stream: &Stream) -> Result<(), NoMemory>
-    ensures { OnOk result (out.new.items ≡ out.old.items ++ kind_words stream.now) }
+fn put_header(out: &mut Vec<u8>, header: &Header) -> Result<(), NoMemory>
+    ensures { OnOk result (out.new.items ≡ out.old.items ++ header_words header.now) }
 {
-    match stream {
-        Stream::Full(full) => {
+    match header {
+        Header::Full(id) => {
             put(out, b"full")?;
-            put_number(out, u64::from(full.id))
+            put_number(out, u64::from(*id))
         }
-        Stream::Changed(changed) => {
+        Header::Changed(from, to) => {
             put(out, b"changed")?;
-            put_number(out, u64::from(changed.from))?;
-            put_number(out, u64::from(changed.to))
+            put_number(out, u64::from(*from))?;
+            put_number(out, u64::from(*to))
         }
     }
 }
 
-fn count(stream: &Stream) -> usize
-    ensures { result ≡ length (items_of stream.now) }
+fn put_line(out: &mut Vec<u8>, summary: &Summary) -> Result<(), NoMemory>
+    ensures { OnOk result (out.new.items ≡ out.old.items ++ summary_line summary.now) }
 {
-    match stream {
-        Stream::Full(full) => full.items.items().len(),
-        Stream::Changed(changed) => changed.items.items().len(),
-    }
-}
-
-fn put_line(out: &mut Vec<u8>, stream: &Stream) -> Result<(), NoMemory>
-    ensures { OnOk result (out.new.items ≡ out.old.items ++ stream_line stream.now) }
-{
-    put_kind(out, stream)?;
+    put_header(out, &summary.header)?;
     put(out, b" records")?;
-    put_number(out, count(stream) as u64)?;
+    put_number(out, summary.records as u64)?;
     put(out, b"\n")
 }
 
@@ -115,19 +105,19 @@ pub fn words_of(alloc: Global, refusal: &Refusal) -> Result<Vec<u8>, NoMemory>
     Ok(out)
 }
 
-fn line_of(alloc: Global, stream: &Stream) -> Result<Vec<u8>, NoMemory>
-    ensures { IfOk result (λ line. line.items ≡ stream_line stream.now) }
+fn line_of(alloc: Global, summary: &Summary) -> Result<Vec<u8>, NoMemory>
+    ensures { IfOk result (λ line. line.items ≡ summary_line summary.now) }
 {
     let mut out = Vec::new(alloc);
-    put_line(&mut out, stream)?;
+    put_line(&mut out, summary)?;
     Ok(out)
 }
 
 fn verified(alloc: Global, bytes: &[u8]) -> Result<Vec<u8>, Refusal>
     ensures { Answers (λ text. text.items) result (made_of Verify bytes.now) }
 {
-    let stream = whole(alloc, bytes)?;
-    match line_of(alloc, &stream) {
+    let summary = whole(alloc, bytes)?;
+    match line_of(alloc, &summary) {
         Ok(line) => Ok(line),
         Err(_) => Err(Refusal::NoMemory),
     }

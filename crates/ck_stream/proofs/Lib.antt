@@ -6,5 +6,6 @@ pub mod RecordLaws
 pub mod ItemsLaws
 pub mod HeaderLaws
 pub mod StreamLaws
+pub mod SeenLaws
 pub mod ByKeyLaws
 pub mod Backups

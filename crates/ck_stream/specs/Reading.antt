@@ -247,7 +247,7 @@ items_at (suc n) total full last (suc number ∷ bytes) = do
 abbrev pub signed : List ℕ → ℕ → List ℕ
 signed bytes rest = take (length bytes - (rest + 32)) bytes
 
-abbrev pub digest_in : List ℕ → List ℕ → Stream × ℕ → Result (Stream × ℕ) StreamFault
+abbrev pub digest_in : {A : Type 0} → List ℕ → List ℕ → A → Result A StreamFault
 digest_in kept found read = if pointwise nat_eq kept found then Ok read else Err (fault.Digest kept found)
 
 -- the stream that begins at this place, and the place behind it

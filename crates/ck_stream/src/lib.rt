@@ -13,6 +13,7 @@ mod reading;
 mod records;
 mod stream;
 mod tag;
+mod verifying;
 mod writing;
 
 pub use applying::apply;
@@ -21,7 +22,9 @@ pub use fault::{ApplyFault, StreamFault};
 pub use item::{Item, Items};
 pub use laws::{backups_apply, none_begins_another};
 pub use reading::read_stream;
-pub use stream::{Changed, Full, Stream};
+pub use stream::{Changed, Full, Stream, Summary};
+pub use tag::Header;
+pub use verifying::verify_stream;
 pub use writing::{write_changed, write_full};
 
 #[cfg(test)]

@@ -19,7 +19,7 @@ use std::alloc::Global;
 const DIGEST_LEN: usize = 32;
 
 /// A header or a record that begins at this place of the whole input couldn't be read.
-fn fault_at(flaw: Flaw, total: usize, place: usize) -> StreamFault
+pub fn fault_at(flaw: Flaw, total: usize, place: usize) -> StreamFault
     ensures { result ≡ fault_at total place flaw }
 {
     match flaw {
@@ -29,7 +29,7 @@ fn fault_at(flaw: Flaw, total: usize, place: usize) -> StreamFault
     }
 }
 
-fn header_in(bytes: &[u8], at: usize) -> Result<(Header, &[u8]), StreamFault>
+pub fn header_in(bytes: &[u8], at: usize) -> Result<(Header, &[u8]), StreamFault>
     requires { at ≤ length bytes.now }
     ensures { Gives (λ x. (x.0, x.1.now)) result
         (located (length bytes.now) at (header_at (drop at bytes.now))) }
@@ -41,7 +41,7 @@ fn header_in(bytes: &[u8], at: usize) -> Result<(Header, &[u8]), StreamFault>
 }
 
 /// A byte, if there is one, and the bytes behind it.
-fn byte_of(bytes: &[u8]) -> Option<(u8, &[u8])>
+pub fn byte_of(bytes: &[u8]) -> Option<(u8, &[u8])>
     ensures { MatchOption result (bytes.now ≡ []) (λ x. bytes.now ≡ x.0 ∷ x.1.now) }
 {
     match bytes {
@@ -103,7 +103,7 @@ fn end_of(count: usize, bytes: &[u8]) -> Result<([u8; 32], &[u8]), Flaw>
 }
 
 /// The SHA-256 of all bytes up to the digest that stands before the rest.
-fn digest_of(bytes: &[u8], rest: usize) -> [u8; 32]
+pub fn digest_of(bytes: &[u8], rest: usize) -> [u8; 32]
     requires { rest < 2 ^ 63 }
     ensures { result ≡ sha256 (signed bytes.now rest) }
 {
@@ -111,7 +111,7 @@ fn digest_of(bytes: &[u8], rest: usize) -> [u8; 32]
     Sha256::digest(signed)
 }
 
-fn end_in(total: usize, count: usize, bytes: &[u8]) -> Result<([u8; 32], &[u8]), StreamFault>
+pub fn end_in(total: usize, count: usize, bytes: &[u8]) -> Result<([u8; 32], &[u8]), StreamFault>
     ensures { Gives (λ x. (x.0, x.1.now)) result
         (located total (total - suc (length bytes.now)) (end_at count bytes.now)) }
 {

@@ -1,4 +1,4 @@
-use crate::Items;
+use crate::{Header, Items};
 
 /// All that a checkpoint holds.
 #[derive(Debug, Drop)]
@@ -23,4 +23,12 @@ pub struct Changed {
 pub enum Stream {
     Full(Full),
     Changed(Changed),
+}
+
+/// What is told of a stream.
+#[derive(Clone, Copy, Debug)]
+pub struct Summary {
+    pub header: Header,
+    /// How many records it has.
+    pub records: usize,
 }

@@ -1,0 +1,71 @@
+ghost use Rattle.std.specs.Prelude.{◌≡◌, ◌≤◌, IfOk, None, length};
+ghost use Rattle.ck_stream.specs.Reading.{Gives, items_at, stream_at};
+ghost use Rattle.ck_stream.specs.Seen.{seen, counted, seen_at};
+
+use crate::header::is_full;
+use crate::reading::{byte_of, digest_of, end_in, fault_at, header_in};
+use crate::records::record_of;
+use crate::{StreamFault, Summary};
+use std::alloc::Global;
+
+/// How many records there are up to the end's tag, and the bytes behind that tag.
+fn count_of(
+    alloc: Global,
+    full: bool,
+    total: usize,
+    bytes: &[u8],
+) -> Result<(usize, &[u8]), StreamFault>
+    ensures { Gives (λ x. (x.0, x.1.now)) result
+        (counted (items_at (length bytes.now) total full None bytes.now)) }
+{
+    let mut last = None;
+    let mut rest = bytes;
+    // Each record has a byte at least, its tag.
+    for count in 0..bytes.len() {
+        match byte_of(rest) {
+            None => return Err(StreamFault::Truncated(total as u64)),
+            Some((0, after)) => return Ok((count, after)),
+            Some((number, after)) => match record_of(alloc, full, &last, number, after) {
+                Ok((item, after)) => {
+                    last = Some(item.key());
+                    rest = after;
+                }
+                Err(flaw) => return Err(fault_at(flaw, total, total.saturating_sub(rest.len()))),
+            },
+        }
+    }
+    Err(StreamFault::Truncated(total as u64))
+}
+
+#[tactic(auto, unfolding(crate::specs::Seen::seen_at))]
+fn summary_in(alloc: Global, bytes: &[u8], at: usize) -> Result<(Summary, usize), StreamFault>
+    requires { at ≤ length bytes.now }
+    ensures { Gives (λ x. x) result (seen_at bytes.now at) }
+{
+    let (header, rest) = header_in(bytes, at)?;
+    let (records, rest) = match count_of(alloc, is_full(header), bytes.len(), rest) {
+        Ok(read) => read,
+        Err(fault) => return Err(fault),
+    };
+    let (kept, rest) = end_in(bytes.len(), records, rest)?;
+    let found = digest_of(&bytes[at..], rest.len());
+    if kept != found {
+        return Err(StreamFault::Digest { kept, found });
+    }
+    let end = bytes.len().saturating_sub(rest.len());
+    Ok((Summary { header, records }, end))
+}
+
+/// What is told of the stream that begins at `at`, and the place behind it. No record is kept, so
+/// this takes the memory of one record.
+pub fn verify_stream(
+    alloc: Global,
+    bytes: &[u8],
+    at: usize,
+) -> Result<(Summary, usize), StreamFault>
+    requires { at ≤ length bytes.now }
+    // What reading the stream gives, without the records.
+    ensures { Gives (λ read. read) result (seen (stream_at bytes.now at)) }
+{
+    summary_in(alloc, bytes, at)
+}
