@@ -28,7 +28,7 @@ take_more history entry zero low = refl
 take_more [] entry (suc count) low = absurd (omega (arith, low))
 take_more (first ∷ history) entry (suc count) low = ap (λ rest. first ∷ rest) (take_more history entry count (omega (arith, low)))
 
-longer : (history : List Entry) (entry : Entry) → length (history ++ entry ∷ []) ≡ length history + 1
+pub longer : (history : List Entry) (entry : Entry) → length (history ++ entry ∷ []) ≡ length history + 1
 longer history entry = simp length-append (omega arith)
 
 -- the number of entries up to the last acknowledged sync

@@ -25,7 +25,7 @@ use ck_disk::Disk;
 use ck_io::{Clock, Sink, Source};
 use ck_report::{Status, fault_line};
 use ck_script::Script;
-use ck_volume::{CommitAnswer, Volume};
+use ck_volume::{Closed, CommitAnswer, Volume};
 use ck_words::{Command, match_words};
 use std::alloc::Global;
 
@@ -69,16 +69,18 @@ fn play_volume<K: Sink, D: Disk, C: Clock>(
     ensures out_tells { (K.means out.new).tells ≡ (K.means out.old).tells }
     ensures clock { C.means clock.new ≡ C.means clock.old }
 {
-    let Ok(played) = play_and_commit(alloc, &mut volume, script, clock) else {
+    let played = play_and_commit(alloc, &mut volume, script, clock);
+    let Closed { disk, history } = volume.close();
+    let Ok(committed) = played else {
         return Ended {
             status: Status::NoMemory,
-            disk: volume.close(),
+            disk,
         };
     };
-    let printed = print(alloc, &played.history, script, out);
+    let printed = print(alloc, &history, script, out);
     Ended {
-        status: status_of(played.committed, printed),
-        disk: volume.close(),
+        status: status_of(committed, printed),
+        disk,
     }
 }
 

@@ -21,7 +21,7 @@ pub fn mkfs<D: Disk>(alloc: Global, disk: D, blocks: u32, records: u32) -> Ended
     match Volume::format(alloc, disk, blocks, records) {
         Ok(volume) => Ended {
             status: Status::Done,
-            disk: volume.close(),
+            disk: volume.close().disk,
         },
         Err(FormatFault::BadSize(disk, needs, has)) => Ended {
             status: not_opened(bad_size(alloc, needs, has)),

@@ -1,5 +1,5 @@
 -- A volume as it is made.
-use Rattle.std.proofs.Common.{◌≡◌, ℕ, ◌||◌, ◌≤◌, false, is_some, IsTrue, None, refl, sym, ap, subst, ◌∙◌}
+use Rattle.std.proofs.Common.{◌≡◌, ℕ, ◌||◌, ◌≤◌, false, is_some, IsTrue, None, [], refl, sym, ap, subst, ◌∙◌}
 use mathlib.Core.Bool.{false≢true}
 use Rattle.std.specs.Ordering.{nat_cmp}
 use Rattle.std.specs.FinMap as map
@@ -20,7 +20,7 @@ use Rattle.ck_volume.specs.Formatting.{new_world, IsFormatted}
 use Rattle.ck_volume.specs.Plain.{IsOurs, IsPlain}
 use Rattle.ck_volume.specs.Safe.{HoldsTable}
 use Rattle.ck_volume.specs.declared.volume.Volume.{Volume}
-use Rattle.ck_volume.specs.Volume.{table_of, mounts_of, blocks_of, layout_of, KeepsWorld, Runs}
+use Rattle.ck_volume.specs.Volume.{history_of, table_of, mounts_of, blocks_of, layout_of, KeepsWorld, Runs}
 use Rattle.ck_volume.proofs.SafeLemmas.{written-built, written-undamaged, written-table}
 use Rattle.ck_volume.proofs.OpenLemmas.{synced-safe}
 use Rattle.ck_volume.proofs.KeptLaws.{kept-exact}
@@ -39,7 +39,7 @@ module _ {D : Type 0} (blocks records : ℕ) (old new : Meaning) (volume : Volum
     (stands : StandsForEmpty (table_of volume)) (written : AreSlots (first_table (table_blocks (layout_of volume).records)) (slots_of (layout_of volume) (table_of volume)))
     (size : size_of blocks records ≤ old.size) (found : IsTrue old.tells → recovered_region new.shows ≡ OpensAt (layout_of volume))
     (first : IsTrue old.tells → table_on (layout_of volume) new.shows ≡ first_table (table_blocks records)) (settled : Settled (layout_of volume) new) (synced : IsSynced new)
-    (length : volume.length ≡ 0) (broken : volume.broken ≡ None) (mounts : mounts_of volume ≡ map.empty) where
+    (history : history_of volume ≡ []) (broken : volume.broken ≡ None) (mounts : mounts_of volume ≡ map.empty) where
   abbrev place : Layout
   place = layout_of volume
 
@@ -93,7 +93,7 @@ module _ {D : Type 0} (blocks records : ℕ) (old new : Meaning) (volume : Volum
         size = subst (λ n. size_of place.blocks place.records ≤ n) (sym runs.size) (subst (λ (l : Layout). size_of l.blocks l.records ≤ old.size) (sym layout) size);
         settled = settled;
       };
-      length_is = length;
+      history_is = history;
       unbroken = broken;
       mounts_are = mounts;
     };

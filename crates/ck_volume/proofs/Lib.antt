@@ -26,6 +26,7 @@ pub mod CommittedLemmas
 pub mod GoesOnLemmas
 pub mod VolumeLemmas
 pub mod Following
+pub mod Reserved
 pub mod OpenLemmas
 pub mod KeptLaws
 pub mod FormatLemmas

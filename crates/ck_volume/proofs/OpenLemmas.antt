@@ -32,7 +32,7 @@ use Rattle.ck_volume.specs.Reading.{OnlyReads}
 use Rattle.ck_volume.specs.Recovering.{Recovery, NotVolume, BadFormat, Damaged, Finds, Recovers}
 use Rattle.ck_volume.specs.Safe.{HoldsTable, IsSafe}
 use Rattle.ck_volume.specs.declared.volume.Volume.{Volume}
-use Rattle.ck_volume.specs.Volume.{table_of, mounts_of, blocks_of, layout_of, world_of}
+use Rattle.ck_volume.specs.Volume.{history_of, table_of, mounts_of, blocks_of, layout_of, world_of}
 use Rattle.ck_volume.proofs.SafeLemmas.{holds-recovers}
 use Rattle.ck_volume.proofs.CommittedLemmas.{leaves_start, leaves_step, leaves_now}
 
@@ -79,7 +79,7 @@ module _ {D : Type 0} (old new : Meaning) (volume : Volume D) (law : Lawful old)
     (blocks : (table_of volume).blocks ≡ (layout_of volume).blocks) (records : (table_of volume).records ≡ (layout_of volume).records) (size : size_of (layout_of volume).blocks (layout_of volume).records ≤ old.size)
     (found : IsTrue old.tells → recovered_region old.shows ≡ OpensAt (layout_of volume)) (settled : Settled (layout_of volume) old) (synced : IsSynced old)
     (opened : IsTrue old.tells → IsOpenedTable (layout_of volume) old (table_of volume))
-    (length : volume.length ≡ 0) (broken : volume.broken ≡ None) (mounts : mounts_of volume ≡ map.empty) where
+    (history : history_of volume ≡ []) (broken : volume.broken ≡ None) (mounts : mounts_of volume ≡ map.empty) where
   abbrev layout : Layout
   layout = layout_of volume
 
@@ -102,7 +102,7 @@ module _ {D : Type 0} (old new : Meaning) (volume : Volume D) (law : Lawful old)
         size = subst (λ n. size_of layout.blocks layout.records ≤ n) (sym reads.step.size) size;
         settled = settled-keeps layout old new reads.step.tells reads.shows reads.crash settled;
       };
-      length_is = length;
+      history_is = history;
       unbroken = broken;
       mounts_are = mounts;
     };

@@ -23,7 +23,7 @@ use Rattle.ck_slots.specs.Committed.{Commits}
 use Rattle.ck_volume.specs.Telling.{limits_of}
 use Rattle.ck_volume.specs.declared.fault.Fault.{Fault}
 use Rattle.ck_volume.specs.declared.volume.Volume.{Volume}
-use Rattle.ck_volume.specs.Volume.{table_of, mounts_of, blocks_of, layout_of, data_of, world_of, IsWhole, KeepsWorld, GoesOn, GoesOnOrBreaks, Runs, IsAttempt}
+use Rattle.ck_volume.specs.Volume.{log_of, table_of, mounts_of, blocks_of, layout_of, data_of, world_of, IsWhole, KeepsWorld, GoesOn, GoesOnOrBreaks, Runs, IsAttempt}
 use Rattle.ck_volume.proofs.Allocated.{used_count}
 use Rattle.ck_volume.proofs.Worlds.{world_same}
 use Rattle.ck_volume.proofs.StoringLemmas.{stored-keeps}
@@ -68,11 +68,11 @@ own_files t u blocks files = record { ours = files.ours; allocated = files.alloc
 module _ {D : Type 0} where
   -- ---- no call of the device
 
-  pub quiet-attempt : (m : Meaning) (before after : Volume D) → Lawful m → after.length ≡ before.length → after.broken ≡ before.broken → IsAttempt m m before after
-  quiet-attempt m before after law length broken = record {
+  pub quiet-attempt : (m : Meaning) (before after : Volume D) → Lawful m → log_of after ≡ log_of before → after.broken ≡ before.broken → IsAttempt m m before after
+  quiet-attempt m before after law log broken = record {
     runs = runs_same m;
     survives = λ told w keeps. leaves_either_start w (unmounted (world_of m.shows before)) (layout_of before) (blocks_of before) m law (inl keeps);
-    length_stays = length;
+    log_stays = log;
     broken_stays = broken;
   }
 
@@ -91,14 +91,14 @@ module _ {D : Type 0} where
 
   -- ---- reads
 
-  pub reads-attempt : (old new : Meaning) (before after : Volume D) → Lawful old → OnlyReads old new → after.length ≡ before.length → after.broken ≡ before.broken → IsAttempt old new before after
-  reads-attempt old new before after law reads length broken = record {
+  pub reads-attempt : (old new : Meaning) (before after : Volume D) → Lawful old → OnlyReads old new → log_of after ≡ log_of before → after.broken ≡ before.broken → IsAttempt old new before after
+  reads-attempt old new before after law reads log broken = record {
     runs = runs_step old old new (runs_same old) reads.step;
     survives = λ told w keeps.
         let now = unmounted (world_of old.shows before) in
         let either = either_reads w now (layout_of before) (blocks_of before) old new reads (inl keeps) in
         leaves_either_step w now (layout_of before) (blocks_of before) old old new (leaves_either_start w now (layout_of before) (blocks_of before) old law (inl keeps)) reads.step either;
-    length_stays = length;
+    log_stays = log;
     broken_stays = broken;
   }
 
@@ -120,13 +120,13 @@ module _ {D : Type 0} where
   -- ---- stores, after a commit or none
 
   pub stores-attempt : (old mid new : Meaning) (before middle after : Volume D) → IsAttempt old mid before middle → GoesOn old mid before middle → OnlyStores (data_of middle) (blocks_of middle) mid new
-      → after.length ≡ middle.length → after.broken ≡ middle.broken → IsAttempt old new before after
-  stores-attempt old mid new before middle after attempt goes stores length broken = record {
+      → log_of after ≡ log_of middle → after.broken ≡ middle.broken → IsAttempt old new before after
+  stores-attempt old mid new before middle after attempt goes stores log broken = record {
     runs = runs_stores (data_of middle) (blocks_of middle) old mid new attempt.runs stores;
     survives = λ told w keeps.
         let now = unmounted (world_of old.shows before) in
         leaves_either_stores w now (layout_of middle) (blocks_of middle) old mid new (attempt.survives told w keeps) stores (goes.kept told w keeps);
-    length_stays = length ∙ attempt.length_stays;
+    log_stays = log ∙ attempt.log_stays;
     broken_stays = broken ∙ attempt.broken_stays;
   }
 
@@ -199,14 +199,14 @@ module _ {D : Type 0} where
     abbrev ran : LeavesOnly old new (CommitLeaves (layout_of before) commits.after old)
     ran = commits.any_moment
 
-    pub commit-attempt : after.length ≡ before.length → after.broken ≡ before.broken → IsAttempt old new before after
-    commit-attempt length broken = record {
+    pub commit-attempt : log_of after ≡ log_of before → after.broken ≡ before.broken → IsAttempt old new before after
+    commit-attempt log broken = record {
       runs = record { size = ran.size; tells = ran.tells; reads = ran.reads; writes = ran.writes; later = ran.later };
       survives = λ told w keeps.
           leaves_more old new (CommitLeaves (layout_of before) commits.after old) (OpensToEither w (unmounted (world_of old.shows before)))
           (keeps-committing (layout_of before) (blocks_of before) old w keeps law told (table_of before) whole.files.ours (sym whole.blocks) (sym whole.records) commits.after commits.slots)
           ran;
-      length_stays = length;
+      log_stays = log;
       broken_stays = broken;
     }
 

@@ -1,17 +1,17 @@
 -- How a device is opened.
-use Rattle.std.specs.Prelude.{◌≡◌, None, IsTrue}
+use Rattle.std.specs.Prelude.{◌≡◌, [], None, IsTrue}
 use Rattle.std.specs.FinMap as map
 use Rattle.ck_disk.specs.Disk.{Meaning, LeavesOnly, Rose}
 use Rattle.ck_volume.specs.Recovering.{Recovery, NotVolume, BadFormat, Damaged, Finds, Recovers}
 use Rattle.ck_volume.specs.declared.open.OpenFault.{OpenFault}
 use Rattle.ck_volume.specs.declared.open.OpenFault.TheVariants as fault
 use Rattle.ck_volume.specs.declared.volume.Volume.{Volume}
-use Rattle.ck_volume.specs.Volume.{world_of, IsWhole, KeepsWorld}
+use Rattle.ck_volume.specs.Volume.{history_of, world_of, IsWhole, KeepsWorld}
 
 -- a volume at its beginning
 pub record IsBegun {D : Type 0} (m : Meaning) (volume : Volume D) : Type 0 where
   pub whole : IsWhole m volume
-  pub length_is : volume.length ≡ 0
+  pub history_is : history_of volume ≡ []
   pub unbroken : volume.broken ≡ None
   pub mounts_are : volume.mounts ≡ map.empty
 

@@ -1,9 +1,11 @@
 -- What a volume stands for, and what its events answer.
-use Rattle.std.specs.Prelude.{◌≡◌, ◌≤◌, ℕ, Bool, true, None, Option, Result, Ok, Err, IsTrue, MatchBool, nat_eq, ◌⊎◌}
+use Rattle.std.specs.Prelude.{◌≡◌, ◌≤◌, ℕ, Bool, true, None, Option, Result, Ok, Err, IsTrue, MatchBool, nat_eq, ◌⊎◌, List, [], ◌∷◌, length}
 use Rattle.ck_disk.specs.Disk.{Image, Meaning, Rose, LeavesOnly}
 use Rattle.ck_log.specs.Layout.{Layout, base_of, size_of}
 use Rattle.ck_log.specs.Images.{Settled}
 use Rattle.ck_alloc.specs.Blocks.{Allocation}
+use Rattle.ck_history.specs.History as answers
+use Rattle.ck_history.specs.declared.history.History.{History}
 use Rattle.ck_model.specs.declared.call.Call.{Call}
 use Rattle.ck_model.specs.declared.entry.Entry.{Entry}
 use Rattle.ck_model.specs.declared.reply.Reply.{Reply}
@@ -47,9 +49,21 @@ layout_of volume = volume.region
 abbrev pub data_of : {D : Type 0} → Volume D → ℕ
 data_of volume = base_of (layout_of volume).records
 
+-- the calls that it answered, and the memory for those to come
+abbrev pub log_of : {D : Type 0} → Volume D → History
+log_of volume = volume.history
+
+-- its history: the answered calls in the order of their answers
+abbrev pub history_of : {D : Type 0} → Volume D → List Entry
+history_of volume = answers.entries_of volume.history
+
+-- how many calls there is memory for beside those
+abbrev pub room_of : {D : Type 0} → Volume D → ℕ
+room_of volume = answers.room_of volume.history
+
 -- how many calls it has answered
 abbrev pub length_of : {D : Type 0} → Volume D → ℕ
-length_of volume = volume.length
+length_of volume = length (history_of volume)
 
 -- the number of the entry that broke it
 abbrev pub broken_of : {D : Type 0} → Volume D → Option ℕ
@@ -61,7 +75,7 @@ world_of shows volume = world_on (store_on shows (data_of volume)) volume.mounts
 
 -- where its history stands
 abbrev pub past_on : {D : Type 0} → Image → Volume D → Past
-past_on shows volume = record { world = world_of shows volume; length = volume.length; broken = volume.broken }
+past_on shows volume = record { world = world_of shows volume; length = length_of volume; broken = volume.broken }
 
 -- a volume that isn't broken
 pub record IsWhole {D : Type 0} (m : Meaning) (volume : Volume D) : Type 0 where
@@ -98,6 +112,21 @@ pub record IsEntryOf (actor seq at : ℕ) (entry : Entry) : Type 0 where
   pub seq_is : entry.seq ≡ seq
   pub at_is : entry.at ≡ at
   pub given : entry.given ≡ 0
+
+-- the last entry of a history, or the one before it
+abbrev pub newest_from : Entry → List Entry → Entry
+newest_from before [] = before
+newest_from before (entry ∷ entries) = newest_from entry entries
+
+-- the entry that was put last; of a history without entries it is one that says nothing
+abbrev pub newest : List Entry → Entry
+newest history = newest_from (record { actor = 0; seq = 0; at = 0; given = 0; reply = reply.Done }) history
+
+-- Only its room may differ: the entries, the files, the mounts and the device stay as they are.
+pub record KeepsAllButRoom {D : Type 0} (before after : Volume D) : Type 0 where
+  pub log : History
+  pub history : answers.entries_of log ≡ history_of before
+  pub rest : after ≡ record before { history = log }
 
 -- the reply that tells of a failure
 abbrev pub fault_reply : Fault → Reply
@@ -142,5 +171,5 @@ Survives old new before = IsTrue old.tells → (w : World) → KeepsWorld old be
 pub record IsAttempt {D : Type 0} (old new : Meaning) (before after : Volume D) : Type 0 where
   pub runs : Runs old new
   pub survives : Survives old new before
-  pub length_stays : after.length ≡ before.length
+  pub log_stays : log_of after ≡ log_of before
   pub broken_stays : after.broken ≡ before.broken

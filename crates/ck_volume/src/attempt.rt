@@ -15,7 +15,7 @@ ghost use Rattle.ck_push.specs.Growth.{gains, losses, write_count};
 ghost use Rattle.ck_tree.specs.Plan.{IsChanging, IsPlan, changed_by};
 ghost use Rattle.ck_volume.specs.Room.{answered_with, has_room};
 ghost use Rattle.ck_volume.specs.Telling.{limits_of};
-ghost use Rattle.ck_volume.specs.Volume.{disk_of, table_of, mounts_of, blocks_of, layout_of, length_of, broken_of, world_of, IsWhole, KeepsWorld, GoesOnOrBreaks, IsAttempt, no_memory};
+ghost use Rattle.ck_volume.specs.Volume.{disk_of, table_of, mounts_of, blocks_of, layout_of, log_of, broken_of, world_of, IsWhole, KeepsWorld, GoesOnOrBreaks, IsAttempt, no_memory};
 ghost use Rattle.ck_volume.specs.Writing.{IsWritingFault};
 
 use crate::freezing::create;
@@ -163,7 +163,7 @@ impl<D: Disk> Volume<D> {
         requires quiet { IsQuiet call.now }
         ensures disk { disk_of self.new ≡ disk_of self.old }
         ensures region { layout_of self.new ≡ layout_of self.old }
-        ensures length { length_of self.new ≡ length_of self.old }
+        ensures log { log_of self.new ≡ log_of self.old }
         ensures broken { broken_of self.new ≡ broken_of self.old }
         ensures files { AreFiles (limits_of (table_of self.old)) (table_of self.new) (blocks_of self.new) }
         ensures busy { KeepsBusy (blocks_of self.old) (blocks_of self.new) }

@@ -4,10 +4,11 @@ ghost use Rattle.ck_model.specs.World.{World, unmounted};
 ghost use Rattle.ck_volume.specs.declared.closing.CommitAnswer.TheVariants as answer;
 ghost use Rattle.ck_volume.specs.Closing.{broken_after};
 ghost use Rattle.ck_volume.specs.Exact.{IsExact};
-ghost use Rattle.ck_volume.specs.Volume.{disk_of, length_of, broken_of, mounts_of, world_of, IsReady, KeepsWorld, Runs, Survives};
+ghost use Rattle.ck_volume.specs.Volume.{disk_of, history_of, room_of, length_of, broken_of, mounts_of, world_of, IsReady, KeepsWorld, Runs, Survives};
 
 use crate::{Fault, Volume};
 use ck_disk::Disk;
+use ck_model::Entry;
 use std::alloc::Global;
 
 /// How a commit ended.
@@ -22,6 +23,13 @@ pub enum CommitAnswer {
     NoMemory,
 }
 
+/// What is left of a volume: its device, and the calls that it answered.
+#[derive(Drop)]
+pub struct Closed<D> {
+    pub disk: D,
+    pub history: Vec<Entry>,
+}
+
 impl<D: Disk> Volume<D> {
     /// Commits the present world, which no call does but `sync`: a crash leaves it afterwards, without its mounts.
     pub fn commit(&mut self, alloc: Global) -> CommitAnswer
@@ -31,7 +39,8 @@ impl<D: Disk> Volume<D> {
         // The world stays, and no entry is made.
         ensures world { IsTrue (D.means (disk_of self.old)).tells → world_of (D.means (disk_of self.new)).shows self.new ≡ world_of (D.means (disk_of self.old)).shows self.old }
         ensures mounts { mounts_of self.new ≡ mounts_of self.old }
-        ensures length { length_of self.new ≡ length_of self.old }
+        ensures history { history_of self.new ≡ history_of self.old }
+        ensures room { room_of self.new ≡ room_of self.old }
 
         // A failed write breaks the volume; once it is broken it says so, and leaves the device alone.
         ensures broken { broken_of self.new ≡ broken_after (length_of self.old) (broken_of self.old) result }
@@ -57,9 +66,29 @@ impl<D: Disk> Volume<D> {
             Ok(()) => CommitAnswer::Done,
             Err(Fault::NoMemory) => CommitAnswer::NoMemory,
             Err(_) => {
-                self.broken = Some(self.length);
+                self.broken = Some(self.history.length());
                 CommitAnswer::WriteFault
             }
+        }
+    }
+
+    /// Ends its use. What wasn't committed is lost.
+    pub fn close(self) -> Closed<D>
+        ensures disk { result.disk ≡ disk_of self }
+        ensures history { result.history.items ≡ history_of self }
+    {
+        let Volume {
+            slots: _,
+            region: _,
+            blocks: _,
+            mounts: _,
+            disk,
+            history,
+            broken: _,
+        } = self;
+        Closed {
+            disk,
+            history: history.into_entries(),
         }
     }
 }

@@ -1,4 +1,4 @@
-ghost use Rattle.std.specs.Prelude.{◌≡◌, ◌+◌, ◌-◌, ◌^◌, ◌<◌, ◌⊎◌, false, Some, None, IsTrue, IsSome, MatchOption, if◌then◌else◌};
+ghost use Rattle.std.specs.Prelude.{◌≡◌, ◌+◌, ◌<◌, ◌++◌, ◌∷◌, [], ◌⊎◌, false, Some, None, IsTrue, IsSome, MatchOption, if◌then◌else◌};
 ghost use Rattle.std.specs.Option.{option_or};
 ghost use Rattle.ck_model.specs.declared.call.Call.TheVariants.{Sync};
 ghost use Rattle.ck_model.specs.declared.reply.Reply.TheVariants as reply;
@@ -6,12 +6,28 @@ ghost use Rattle.ck_model.specs.Streams.{Texts};
 ghost use Rattle.ck_model.specs.World.{World, unmounted};
 ghost use Rattle.ck_model.specs.History.{CallsBy, is_fault, is_write_fault, is_broken};
 ghost use Rattle.ck_volume.specs.Built.{IsBuilt};
-ghost use Rattle.ck_volume.specs.Volume.{disk_of, length_of, broken_of, world_of, past_on, Answers, IsWhole, IsReady, KeepsWorld, Runs, Survives, Follows, HasCause, IsEntryOf};
+ghost use Rattle.ck_volume.specs.declared.event.Turn.TheVariants.{Answered};
+ghost use Rattle.ck_volume.specs.declared.event.Progress.TheVariants.{Fresh};
+ghost use Rattle.ck_volume.specs.Volume.{disk_of, log_of, history_of, room_of, length_of, broken_of, world_of, past_on, newest, Answers, IsWhole, IsReady, KeepsWorld, Runs, Survives, Follows, HasCause, IsEntryOf};
 
 use crate::{Fault, Volume};
 use ck_disk::Disk;
 use ck_model::{Call, Entry, Reply};
 use std::alloc::Global;
+
+/// Whether an event answered its call, or there is more to do of it.
+#[derive(Clone, Copy, Debug, PartialEq, Eq)]
+pub enum Turn {
+    More,
+    Answered,
+}
+
+/// How far a call has come that takes more than one event.
+#[derive(Drop)]
+pub enum Progress {
+    /// It wasn't begun, or it was answered.
+    Fresh,
+}
 
 fn entry_of(actor: u32, seq: u32, at: u64, reply: Reply) -> Entry
     ensures { result ≡ record { actor = actor; seq = seq; at = at; given = 0; reply = reply } }
@@ -34,7 +50,7 @@ impl<D: Disk> Volume<D> {
         requires unbroken { broken_of self.old ≡ None }
         ensures answers { IsTrue (D.means (disk_of self.old)).tells → (texts : Texts) → Answers texts (world_of (D.means (disk_of self.old)).shows self.old) actor moment call.now result (world_of (D.means (disk_of self.new)).shows self.new) }
         ensures ready { IsReady (D.means (disk_of self.new)) self.new }
-        ensures length { length_of self.new ≡ length_of self.old }
+        ensures log { log_of self.new ≡ log_of self.old }
         ensures broken { broken_of self.new ≡ (if is_write_fault result then Some (length_of self.old) else None) }
         ensures not_refused { is_broken result ≡ false }
         ensures cause { HasCause (D.means (disk_of self.old)) (D.means (disk_of self.new)) result }
@@ -48,7 +64,7 @@ impl<D: Disk> Volume<D> {
         match self.attempt(alloc, actor, moment, call) {
             Ok(reply) => reply,
             Err(Fault::WriteFault) => {
-                self.broken = Some(self.length);
+                self.broken = Some(self.history.length());
                 Reply::WriteFault
             }
             Err(Fault::ReadFault) => Reply::ReadFault,
@@ -56,23 +72,36 @@ impl<D: Disk> Volume<D> {
         }
     }
 
-    /// Answers an actor's call with this number, which began at this moment.
-    pub fn event(&mut self, alloc: Global, actor: u32, seq: u32, at: u64, call: &Call) -> Entry
+    /// Answers an actor's call with this number, which began at this moment, and puts its entry into
+    /// the history. It takes no memory for that.
+    pub fn event(
+        &mut self,
+        alloc: Global,
+        actor: u32,
+        seq: u32,
+        at: u64,
+        call: &Call,
+        progress: &mut Progress,
+    ) -> Turn
         requires built { IsBuilt call.now }
         requires ready { IsReady (D.means (disk_of self.old)) self.old }
-        requires few { length_of self.old < 2 ^ 32 - 1 }
+        requires room { 0 < room_of self.old }
+        ensures answered { result ≡ Answered }
+        ensures progress { progress.new ≡ Fresh }
 
         // Its one entry is legal where the history stands.
-        ensures entry { IsEntryOf actor seq at result }
-        ensures follows { IsTrue (D.means (disk_of self.old)).tells → (texts : Texts) (calls : CallsBy) → calls actor seq ≡ Some call.now → Follows texts calls (past_on (D.means (disk_of self.old)).shows self.old) result (past_on (D.means (disk_of self.new)).shows self.new) }
+        ensures added { history_of self.new ≡ history_of self.old ++ newest (history_of self.new) ∷ [] }
+        ensures room { room_of self.new + 1 ≡ room_of self.old }
+        ensures entry { IsEntryOf actor seq at (newest (history_of self.new)) }
+        ensures follows { IsTrue (D.means (disk_of self.old)).tells → (texts : Texts) (calls : CallsBy) → calls actor seq ≡ Some call.now
+            → Follows texts calls (past_on (D.means (disk_of self.old)).shows self.old) (newest (history_of self.new)) (past_on (D.means (disk_of self.new)).shows self.new) }
         ensures ready { IsReady (D.means (disk_of self.new)) self.new }
-        ensures length { length_of self.new ≡ length_of self.old + 1 }
 
         // A failed write breaks it; once it is broken it says so, and leaves the device alone.
-        ensures broken { broken_of self.new ≡ option_or (broken_of self.old) (if is_write_fault result.reply then Some (length_of self.old) else None) }
-        ensures refused { MatchOption (broken_of self.old) (is_broken result.reply ≡ false) (λ entry. result.reply ≡ reply.Broken entry) }
+        ensures broken { broken_of self.new ≡ option_or (broken_of self.old) (if is_write_fault (newest (history_of self.new)).reply then Some (length_of self.old) else None) }
+        ensures refused { MatchOption (broken_of self.old) (is_broken (newest (history_of self.new)).reply ≡ false) (λ entry. (newest (history_of self.new)).reply ≡ reply.Broken entry) }
         ensures untouched { IsSome (broken_of self.old) → disk_of self.new ≡ disk_of self.old }
-        ensures cause { HasCause (D.means (disk_of self.old)) (D.means (disk_of self.new)) result.reply }
+        ensures cause { HasCause (D.means (disk_of self.old)) (D.means (disk_of self.new)) (newest (history_of self.new)).reply }
         ensures runs { Runs (D.means (disk_of self.old)) (D.means (disk_of self.new)) }
 
         // A crash at any moment of it leaves the world that was committed before, or the present one from before it.
@@ -81,15 +110,17 @@ impl<D: Disk> Volume<D> {
             → KeepsWorld (D.means (disk_of self.new)) self.new w ⊎ KeepsWorld (D.means (disk_of self.new)) self.new (unmounted (world_of (D.means (disk_of self.old)).shows self.old)) }
 
         // A sync that is answered without a fault has committed every entry up to itself.
-        ensures synced { call.now ≡ Sync → is_fault result.reply ≡ false → IsTrue (D.means (disk_of self.old)).tells → (w : World) → KeepsWorld (D.means (disk_of self.old)) self.old w
+        ensures synced { call.now ≡ Sync → is_fault (newest (history_of self.new)).reply ≡ false → IsTrue (D.means (disk_of self.old)).tells → (w : World) → KeepsWorld (D.means (disk_of self.old)) self.old w
             → KeepsWorld (D.means (disk_of self.new)) self.new (unmounted (world_of (D.means (disk_of self.new)).shows self.new)) }
     {
+        *progress = Progress::Fresh;
         if let Some(entry) = self.broken {
-            self.length += 1;
-            return entry_of(actor, seq, at, Reply::Broken(entry));
+            self.history
+                .put(entry_of(actor, seq, at, Reply::Broken(entry)));
+            return Turn::Answered;
         }
         let reply = self.answer(alloc, actor, at, call);
-        self.length += 1;
-        entry_of(actor, seq, at, reply)
+        self.history.put(entry_of(actor, seq, at, reply));
+        Turn::Answered
     }
 }

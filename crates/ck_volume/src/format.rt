@@ -6,6 +6,7 @@ ghost use Rattle.ck_volume.specs.Volume.{disk_of};
 use crate::Volume;
 use crate::open::blocks_in;
 use ck_disk::Disk;
+use ck_history::History;
 use ck_log::{FormatLog, Region};
 use ck_model::Mounts;
 use ck_slots::Slots;
@@ -53,7 +54,7 @@ impl<D: Disk> Volume<D> {
             blocks,
             mounts: Mounts::new(alloc),
             disk,
-            length: 0,
+            history: History::new(alloc),
             broken: None,
         })
     }

@@ -5,6 +5,7 @@ mod applying;
 mod attempt;
 mod closing;
 mod committing;
+mod entries;
 mod event;
 mod fault;
 mod format;
@@ -25,7 +26,8 @@ mod tests;
 mod volume;
 mod writing;
 
-pub use closing::CommitAnswer;
+pub use closing::{Closed, CommitAnswer};
+pub use event::{Progress, Turn};
 use fault::Fault;
 pub use format::FormatFault;
 pub use open::OpenFault;

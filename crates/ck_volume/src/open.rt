@@ -12,6 +12,7 @@ ghost use Rattle.ck_volume.specs.Volume.{disk_of, broken_of};
 use crate::Volume;
 use ck_alloc::Blocks;
 use ck_disk::Disk;
+use ck_history::History;
 use ck_log::{OpenLog, Region};
 use ck_model::{Mounts, NoMemory};
 use ck_slots::{OpenSlots, Slots};
@@ -69,7 +70,7 @@ impl<D: Disk> Volume<D> {
             blocks,
             mounts: Mounts::new(alloc),
             disk,
-            length: 0,
+            history: History::new(alloc),
             broken: None,
         })
     }
@@ -99,21 +100,5 @@ impl<D: Disk> Volume<D> {
         ensures { result ≡ is_some (broken_of self.now) }
     {
         self.broken.is_some()
-    }
-
-    /// The device.
-    pub fn close(self) -> D
-        ensures { result ≡ disk_of self }
-    {
-        let Volume {
-            slots: _,
-            region: _,
-            blocks: _,
-            mounts: _,
-            disk,
-            length: _,
-            broken: _,
-        } = self;
-        disk
     }
 }

@@ -1,9 +1,9 @@
-ghost use Rattle.std.specs.Prelude.{◌≡◌, ◌+◌, ◌<◌, IfOk};
+ghost use Rattle.std.specs.Prelude.{◌≡◌, ◌+◌, ◌<◌, IfOk, OnOk};
 ghost use Rattle.ck_disk.specs.MemDisk.{meaning};
 ghost use Rattle.ck_volume.specs.Built.{IsBuilt};
 ghost use Rattle.ck_volume.specs.Volume.{disk_of, length_of, IsReady};
 
-use crate::{CommitAnswer, FormatFault, OpenFault, Volume};
+use crate::{CommitAnswer, FormatFault, OpenFault, Progress, Turn, Volume};
 use ck_disk::{MemDisk, NoMemory};
 use ck_model::{Call, Octets, Path, Reply};
 use std::alloc::Global;
@@ -60,32 +60,45 @@ fn read(alloc: Global) -> Result<Call, Fail>
     Ok(Call::Read(file(alloc)?, 0, 9))
 }
 
-/// The reply to a call on a volume that has answered few.
-fn reply_to(alloc: Global, volume: &mut Volume<MemDisk>, call: &Call) -> Reply
+/// Answers a call on a volume that has answered few.
+fn answer(alloc: Global, volume: &mut Volume<MemDisk>, call: &Call) -> Result<(), Fail>
     requires built { IsBuilt call.now }
     requires ready { IsReady (meaning (disk_of volume.old)) volume.old }
     requires few { length_of volume.old < 100 }
-    ensures ready { IsReady (meaning (disk_of volume.new)) volume.new }
-    ensures length { length_of volume.new ≡ length_of volume.old + 1 }
+    ensures ready { OnOk result (IsReady (meaning (disk_of volume.new)) volume.new) }
+    ensures length { OnOk result (length_of volume.new ≡ length_of volume.old + 1) }
 {
-    volume.event(alloc, 1, 1, 100, call).reply
+    volume.reserve(1)?;
+    let _turn: Turn = volume.event(alloc, 1, 1, 100, call, &mut Progress::Fresh);
+    Ok(())
+}
+
+/// The reply to the call that was answered last.
+fn reply(volume: &Volume<MemDisk>) -> &Reply
+    requires { 0 < length_of volume.now }
+{
+    &volume.entry(volume.length() - 1).reply
 }
 
 #[test]
 fn what_was_committed_is_opened(rt: HostRuntime) -> Result<(), Fail> {
     let alloc = rt.alloc();
     let mut volume = new_volume(alloc, 0)?;
-    let made = reply_to(alloc, &mut volume, &make(alloc)?);
+    answer(alloc, &mut volume, &make(alloc)?)?;
+    let made = reply(&volume);
     assert!(rt; matches!(made, Reply::Done));
-    let synced = reply_to(alloc, &mut volume, &Call::Sync);
+    answer(alloc, &mut volume, &Call::Sync)?;
+    let synced = reply(&volume);
     assert!(rt; matches!(synced, Reply::Done));
-    let written = reply_to(alloc, &mut volume, &write(alloc)?);
+    answer(alloc, &mut volume, &write(alloc)?)?;
+    let written = reply(&volume);
     assert!(rt; matches!(written, Reply::Done));
     assert_eq!(rt; volume.commit(alloc), CommitAnswer::Done);
 
-    let mut again = opened(alloc, volume.close())?;
-    let reply = reply_to(alloc, &mut again, &read(alloc)?);
-    assert!(rt; matches!(&reply, Reply::Bytes(bytes) if bytes.items() == b"hello".as_slice()));
+    let mut again = opened(alloc, volume.close().disk)?;
+    answer(alloc, &mut again, &read(alloc)?)?;
+    let read_back = reply(&again);
+    assert!(rt; matches!(read_back, Reply::Bytes(bytes) if bytes.items() == b"hello".as_slice()));
     Ok(())
 }
 
@@ -93,12 +106,14 @@ fn what_was_committed_is_opened(rt: HostRuntime) -> Result<(), Fail> {
 fn what_was_not_committed_is_gone(rt: HostRuntime) -> Result<(), Fail> {
     let alloc = rt.alloc();
     let mut volume = new_volume(alloc, 0)?;
-    let made = reply_to(alloc, &mut volume, &make(alloc)?);
+    answer(alloc, &mut volume, &make(alloc)?)?;
+    let made = reply(&volume);
     assert!(rt; matches!(made, Reply::Done));
 
-    let mut again = opened(alloc, volume.close())?;
-    let reply = reply_to(alloc, &mut again, &read(alloc)?);
-    assert!(rt; matches!(reply, Reply::NotFound));
+    let mut again = opened(alloc, volume.close().disk)?;
+    answer(alloc, &mut again, &read(alloc)?)?;
+    let read_back = reply(&again);
+    assert!(rt; matches!(read_back, Reply::NotFound));
     Ok(())
 }
 
@@ -117,13 +132,17 @@ fn a_failed_write_breaks_it(rt: HostRuntime) -> Result<(), Fail> {
     let alloc = rt.alloc();
     // It is formatted with 13 calls of the device, and making a file takes none.
     let mut volume = new_volume(alloc, 14)?;
-    let made = reply_to(alloc, &mut volume, &make(alloc)?);
+    answer(alloc, &mut volume, &make(alloc)?)?;
+    let made = reply(&volume);
     assert!(rt; matches!(made, Reply::Done) && !volume.is_broken());
-    let written = reply_to(alloc, &mut volume, &write(alloc)?);
+    answer(alloc, &mut volume, &write(alloc)?)?;
+    let written = reply(&volume);
     assert!(rt; matches!(written, Reply::WriteFault) && volume.is_broken());
-    let left = reply_to(alloc, &mut volume, &read(alloc)?);
+    answer(alloc, &mut volume, &read(alloc)?)?;
+    let left = reply(&volume);
     assert!(rt; matches!(left, Reply::Broken(1)));
-    let synced = reply_to(alloc, &mut volume, &Call::Sync);
+    answer(alloc, &mut volume, &Call::Sync)?;
+    let synced = reply(&volume);
     assert!(rt; matches!(synced, Reply::Broken(1)));
     assert_eq!(rt; volume.commit(alloc), CommitAnswer::Broken(1));
     Ok(())

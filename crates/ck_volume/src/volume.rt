@@ -1,4 +1,5 @@
 use ck_alloc::Blocks;
+use ck_history::History;
 use ck_log::Region;
 use ck_model::Mounts;
 use ck_slots::Slots;
@@ -14,8 +15,8 @@ pub struct Volume<D> {
     pub(crate) blocks: Blocks,
     pub(crate) mounts: Mounts,
     pub(crate) disk: D,
-    /// How many calls were answered.
-    pub(crate) length: u32,
+    /// The calls that it answered.
+    pub(crate) history: History,
     /// The number of the answer that told of the failed write, counted from 0.
     pub(crate) broken: Option<u32>,
 }

@@ -1,7 +1,9 @@
-use Rattle.std.proofs.Common.{inr, sym, subst}
+use Rattle.std.proofs.Common.{List, inr, sym, subst}
 use Rattle.ck_disk.specs.Disk.{Meaning}
+use Rattle.ck_model.specs.declared.entry.Entry.{Entry}
 use Rattle.ck_script.specs.Numbered.{calls_in}
 use Rattle.ck_volume.specs.Volume.{disk_of, world_of}
+use Rattle.ck_admin.specs.Crash.{IsPlayed}
 use Rattle.ck_admin.specs.Ending.{EndsOn}
 use Rattle.ck_admin.proofs.TopLemmas.{ends_begun}
 use Rattle.ck_admin.proofs.command.play_volume.Goals as goal
@@ -14,12 +16,14 @@ returns-clause-ends g c =
     let script = calls_in c.args.script.now.calls in
     let mid : Meaning = g.D.Disk.means (disk_of c.args.volume) in
     let w = world_of mid.shows c.args.volume in
-    subst (λ disk. EndsOn script clock w mid (g.D.Disk.means disk) old new c.status_of.result) (sym c.close-2.ensures)
+    let played = c.play_and_commit-played.new.volume in
+    let history = c.close.result.history.items in
+    subst (λ disk. EndsOn script clock w mid (g.D.Disk.means disk) old new c.status_of.result) (sym c.close.ensures.disk)
     (inr (record {
-      history = c.in-Ok.played.history.items;
-      committed = c.in-Ok.played.committed;
+      history = history;
+      committed = c.in-Ok.committed;
       printed = c.print-printed.result;
-      played = c.in-Ok.ensures.played;
+      played = subst (λ (es : List Entry). IsPlayed script clock w mid (g.D.Disk.means (disk_of played)) es c.in-Ok.committed) (sym c.close.ensures.history) c.in-Ok.ensures.played;
       whole = rw c.deref.ensures.value at c.print-printed.ensures.whole;
       fault = rw c.deref.ensures.value at c.print-printed.ensures.fault;
       status_is = c.status_of.ensures;

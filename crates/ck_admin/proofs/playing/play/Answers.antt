@@ -1,118 +1,34 @@
-use Rattle.std.proofs.Common.{◌≡◌, ℕ, ◌+◌, ◌<◌, ◌∷◌, ◌++◌, [], List, None, Some, suc, length, is_some, IsTrue, refl, subst, sym, ap, ◌∙◌, arith}
+use Rattle.std.proofs.Common.{◌≡◌, ◌≤◌, ◌+◌, ◌^◌, ◌<◌, List, length, ap, subst, arith}
 use Rattle.ck_disk.specs.Disk.{Meaning}
-use Rattle.ck_io.specs.Clock.{ClockMeaning}
 use Rattle.ck_model.specs.declared.entry.Entry.{Entry}
-use Rattle.ck_model.specs.Streams.{Texts}
-use Rattle.ck_model.specs.World.{World, unmounted}
-use Rattle.ck_model.specs.Standing.{world_on}
-use Rattle.ck_model.specs.History.{Past, CallsBy, begun, call_at, state}
-use Rattle.ck_script.specs.Numbered.{calls_in, IsNumbered}
-use Rattle.ck_volume.specs.Device.{store_on}
-use Rattle.ck_volume.specs.Volume.{past_on, world_of, data_of, table_of}
+use Rattle.ck_model.specs.History.{call_at}
+use Rattle.ck_script.specs.Numbered.{calls_in}
+use Rattle.ck_volume.specs.declared.volume.Volume.{Volume}
+use Rattle.ck_volume.specs.Volume.{disk_of, history_of, length_of, world_of}
+use Rattle.ck_volume.proofs.Reserved.{begun-reserved, kept-reserved}
 use Rattle.ck_admin.specs.Crash.{LeavesVolume}
 use Rattle.ck_admin.specs.Play.{IsPlay}
-use Rattle.ck_admin.proofs.CrashLemmas.{IsSafeSoFar, Survived, safe_begins, safe_goes_on}
-use Rattle.ck_admin.proofs.PlayLemmas.{IsSoFar, Answered, started, called_at, goes_on, whole, broken-is}
 use Rattle.ck_admin.proofs.playing.play.Goals as goal
 
-pub loop-line-init : goal.loop-line-init
-loop-line-init g c =
-    let lines = c.items-lines.result.now in
-    let clock = g.C.Clock.means c.args.clock.now in
-    let m : Meaning = g.D.Disk.means c.args.volume.now.disk in
-    let volume = c.args.volume.now in
-    let w : World = world_of m.shows volume in
-    let past : past_on m.shows volume ≡ begun w = λ i. record { world = w; length = c.requires.begun.length_is i; broken = c.requires.begun.unbroken i } in
-    let bare : w ≡ unmounted w = ap (λ mounts. world_on (store_on m.shows (data_of volume)) mounts (table_of volume)) c.requires.begun.mounts_are in
-    let none : [] ≡ c.in_ok-history.history.items = sym c.in_ok-history.ensures.items in
-    record {
-      so_far = subst (λ history. IsSoFar lines clock w m m 0 (past_on m.shows volume) history) none (started lines clock w m (past_on m.shows volume) past);
-      safe = subst (λ history. IsSafeSoFar (call_at (calls_in lines)) w m m history volume) none (safe_begins (call_at (calls_in lines)) w m volume (g.met.D.Disk.lawful volume.disk) bare c.requires.kept);
-      ready = λ unbroken. c.requires.begun.whole;
-      clock = refl;
-      count = c.in_ok-history.ensures.len;
-      room = omega (arith, c.in_ok-history.ensures.capacity);
-    }
+pub reserve-requires : goal.reserve-requires
+reserve-requires g c =
+    let none : length_of c.args.volume.now ≡ 0 = ap (λ (es : List Entry). length es) c.requires.begun.history_is in
+    omega (arith, none, c.requires.few)
 
-pub loop-line-preserved : goal.loop-line-preserved
-loop-line-preserved g c =
-    let lines = c.items-lines.result.now in
-    let calls : CallsBy = call_at (calls_in lines) in
-    let clock = g.C.Clock.means c.args.clock.now in
-    let at = c.loop-line.line-index in
-    let line = c.line-item.result in
-    let entry = c.event-entry.result in
-    let history = c.loop-line.history.items in
-    let old : Meaning = g.D.Disk.means c.args.volume.now.disk in
-    let mid : Meaning = g.D.Disk.means c.loop-line.volume.disk in
-    let new : Meaning = g.D.Disk.means c.event-entry.new.self.disk in
-    let w : World = world_of old.shows c.args.volume.now in
-    let past : Past = past_on mid.shows c.loop-line.volume in
-    let next : Past = past_on new.shows c.event-entry.new.self in
-    let event = c.event-entry.ensures in
-    let numbered : IsNumbered lines = subst IsNumbered (sym c.items-lines.ensures) c.args.script.now.numbered in
-    let within : at < length lines = omega arith in
-    let moment = subst (λ (m : ClockMeaning). IsTrue m.tells → c.now.result ≡ m.moment) c.loop-line.invariant.clock c.now.ensures.told in
-    let more : suc at ≡ at + 1 = omega arith in
-    let answered : Answered line clock mid new past next entry = record {
-      actor = event.entry.actor_is;
-      seq = event.entry.seq_is;
-      moment = λ told. event.entry.at_is ∙ moment told;
-      follows = event.follows;
-      length = event.length;
-      broken = event.broken;
-      refused = event.refused;
-      cause = event.cause;
-      later = record { size = event.runs.size; tells = event.runs.tells; reads = event.runs.reads; writes = event.runs.writes };
-    } in
-    let so_far = goes_on lines clock w old mid new at past next history line entry numbered within c.line-item.is c.loop-line.invariant.so_far answered in
-    let survived : Survived mid new c.loop-line.volume c.event-entry.new.self line.call entry = record {
-      runs = event.runs;
-      survives = event.survives;
-      kept = event.kept;
-      synced = event.synced;
-      broken = event.broken;
-      refused = event.refused;
-    } in
-    let called : calls entry.actor entry.seq ≡ Some line.call = (λ i. calls (event.entry.actor_is i) (event.entry.seq_is i)) ∙ called_at lines at line numbered within c.line-item.is in
-    let safe = safe_goes_on g.D.Disk.means g.met.D.Disk.lawful calls w old history entry line.call c.loop-line.volume c.event-entry.new.self c.loop-line.invariant.safe survived event.untouched called
-    (λ told texts. sym (ap (λ (p : Past). p.world) (c.loop-line.invariant.so_far.leads told texts)))
-    (λ told texts. sym (ap (λ (p : Past). p.world) (so_far.leads told texts))) in
-    record {
-      so_far = rw c.push_reserved.ensures.items (subst (λ at. IsSoFar lines clock w old new at next (history ++ entry ∷ [])) more so_far);
-      safe = rw c.push_reserved.ensures.items safe;
-      ready = event.ready;
-      clock = c.now.ensures.unchanged ∙ c.loop-line.invariant.clock;
-      count = omega (arith, c.push_reserved.ensures.len, c.loop-line.invariant.count);
-      room = omega (arith, c.push_reserved.ensures.capacity, c.loop-line.invariant.room);
-    }
+pub answer_all-requires-clause-begun : goal.answer_all-requires-clause-begun
+answer_all-requires-clause-begun g c = begun-reserved g.D.Disk.means c.args.volume.now c.reserve.new.self c.reserve.ensures.rest c.requires.begun
+
+pub answer_all-requires-clause-kept : goal.answer_all-requires-clause-kept
+answer_all-requires-clause-kept g c = kept-reserved g.D.Disk.means c.args.volume.now c.reserve.new.self c.reserve.ensures.rest c.requires.kept
 
 pub returns-clause-play : goal.returns-clause-play
 returns-clause-play g c =
-    let lines = c.items-lines.result.now in
-    let clock = g.C.Clock.means c.args.clock.now in
-    let old : Meaning = g.D.Disk.means c.args.volume.now.disk in
-    let now : Meaning = g.D.Disk.means c.loop-line.volume.disk in
-    let w : World = world_of old.shows c.args.volume.now in
-    let numbered : IsNumbered lines = subst IsNumbered (sym c.items-lines.ensures) c.args.script.now.numbered in
-    subst (λ lines. IsPlay (calls_in lines) clock w old now c.loop-line.history.items) c.items-lines.ensures
-    (whole lines clock w old now (past_on now.shows c.loop-line.volume) c.loop-line.history.items numbered c.loop-line.line-index c.loop-line-test.false c.loop-line.invariant.so_far)
+    let after = c.answer_all.new.volume in
+    subst (λ (v : Volume g.row.D.Denot). IsPlay (calls_in c.args.script.now.calls) (g.C.Clock.means c.args.clock.now) (world_of (g.D.Disk.means (disk_of v)).shows v) (g.D.Disk.means (disk_of v)) (g.D.Disk.means (disk_of after)) (history_of after))
+    c.reserve.ensures.rest.rest c.answer_all.ensures.play
 
 pub returns-clause-leaves : goal.returns-clause-leaves
 returns-clause-leaves g c =
-    let lines = c.items-lines.result.now in
-    let old : Meaning = g.D.Disk.means c.args.volume.now.disk in
-    let now : Meaning = g.D.Disk.means c.loop-line.volume.disk in
-    let w : World = world_of old.shows c.args.volume.now in
-    let inv = c.loop-line.invariant in
-    subst (λ lines. LeavesVolume (call_at (calls_in lines)) w old now c.loop-line.history.items c.loop-line.volume) c.items-lines.ensures
-    (record {
-      ready = inv.ready;
-      stands = λ told texts. sym (ap (λ (p : Past). p.world) (inv.so_far.leads told texts));
-      any_moment = inv.safe.any_moment;
-      at_the_end = inv.safe.at_the_end;
-      kept = inv.safe.kept;
-    })
-
-pub returns-clause-broken : goal.returns-clause-broken
-returns-clause-broken g c = ap is_some c.loop-line.invariant.so_far.broken ∙ broken-is 0 None c.loop-line.history.items
+    let after = c.answer_all.new.volume in
+    subst (λ (v : Volume g.row.D.Denot). LeavesVolume (call_at (calls_in c.args.script.now.calls)) (world_of (g.D.Disk.means (disk_of v)).shows v) (g.D.Disk.means (disk_of v)) (g.D.Disk.means (disk_of after)) (history_of after) after)
+    c.reserve.ensures.rest.rest c.answer_all.ensures.leaves

@@ -1,6 +1,9 @@
+use Rattle.std.proofs.Common.{List, sym, subst}
 use Rattle.ck_disk.specs.Disk.{Meaning}
+use Rattle.ck_model.specs.declared.entry.Entry.{Entry}
 use Rattle.ck_script.specs.Numbered.{calls_in}
-use Rattle.ck_volume.specs.Volume.{disk_of, world_of}
+use Rattle.ck_volume.specs.Volume.{disk_of, history_of, world_of}
+use Rattle.ck_admin.specs.Crash.{IsPlayed}
 use Rattle.ck_admin.proofs.PlayedLemmas.{Committed, played}
 use Rattle.ck_admin.proofs.playing.play_and_commit.Goals as goal
 
@@ -8,9 +11,9 @@ pub returns-clause-played : goal.returns-clause-played
 returns-clause-played g c =
     let old : Meaning = g.D.Disk.means (disk_of c.args.volume.now) in
     let before = c.play.new.volume in
-    let after = c.commit-committed.new.self in
-    let event = c.commit-committed.ensures in
-    let commit : Committed (g.D.Disk.means (disk_of before)) (g.D.Disk.means (disk_of after)) before after c.commit-committed.result = record {
+    let after = c.commit.new.self in
+    let event = c.commit.ensures in
+    let commit : Committed (g.D.Disk.means (disk_of before)) (g.D.Disk.means (disk_of after)) before after c.commit.result = record {
       runs = event.runs;
       world = event.world;
       refused = event.refused;
@@ -19,5 +22,6 @@ returns-clause-played g c =
       survives = event.survives;
       exact = event.exact;
     } in
-    played g.D.Disk.means g.met.D.Disk.lawful (calls_in c.args.script.now.calls) (g.C.Clock.means c.args.clock.now) (world_of old.shows c.args.volume.now) old c.in_ok-history.history.items before after c.commit-committed.result
-    c.in_ok-history.ensures.play c.in_ok-history.ensures.leaves c.in_ok-history.ensures.broken commit event.untouched
+    subst (λ (es : List Entry). IsPlayed (calls_in c.args.script.now.calls) (g.C.Clock.means c.args.clock.now) (world_of old.shows c.args.volume.now) old (g.D.Disk.means (disk_of after)) es c.commit.result) (sym event.history)
+    (played g.D.Disk.means g.met.D.Disk.lawful (calls_in c.args.script.now.calls) (g.C.Clock.means c.args.clock.now) (world_of old.shows c.args.volume.now) old (history_of before) before after c.commit.result
+    c.in_ok-play.ensures.play c.in_ok-play.ensures.leaves c.in_ok-play.ensures.broken commit event.untouched)

@@ -12,14 +12,14 @@ returns-in-Ok-clause-attempt g c =
     let before = c.args.self.now in
     let after = c.attempt_quietly.new.self in
     let e = c.attempt_quietly.ensures in
-    subst (λ d. IsAttempt (g.D.Disk.means before.disk) (g.D.Disk.means d) before after) (sym e.disk) (quiet-attempt (g.D.Disk.means before.disk) before after (g.met.D.Disk.lawful before.disk) e.length e.broken)
+    subst (λ d. IsAttempt (g.D.Disk.means before.disk) (g.D.Disk.means d) before after) (sym e.disk) (quiet-attempt (g.D.Disk.means before.disk) before after (g.met.D.Disk.lawful before.disk) e.log e.broken)
 
 pub returns-in-Err-clause-attempt : goal.returns-in-Err-clause-attempt
 returns-in-Err-clause-attempt g c =
     let before = c.args.self.now in
     let after = c.attempt_quietly.new.self in
     let e = c.attempt_quietly.ensures in
-    subst (λ d. IsAttempt (g.D.Disk.means before.disk) (g.D.Disk.means d) before after) (sym e.disk) (quiet-attempt (g.D.Disk.means before.disk) before after (g.met.D.Disk.lawful before.disk) e.length e.broken)
+    subst (λ d. IsAttempt (g.D.Disk.means before.disk) (g.D.Disk.means d) before after) (sym e.disk) (quiet-attempt (g.D.Disk.means before.disk) before after (g.met.D.Disk.lawful before.disk) e.log e.broken)
 
 pub returns-in-Ok-clause-goes_on : goal.returns-in-Ok-clause-goes_on
 returns-in-Ok-clause-goes_on g c =
