@@ -1,5 +1,5 @@
 -- Only `ls` and `cls` are answered by names, and only `ckpts` by a list of checkpoints.
-use Rattle.std.proofs.Common.{◌≡◌, ℕ, ◌+◌, ◌-◌, ◌&&◌, ◌||◌, Bool, true, false, Option, None, Some, MatchOption, Result, Ok, Err, MatchResult, List, [], ◌∷◌, length, take, nat_eq, nat_le, nat_lt, not, find, ok_or, replicate, refl, sym, ap, subst, ◌∙◌, if◌then◌else◌}
+use Rattle.std.proofs.Common.{◌≡◌, ℕ, ◌+◌, ◌-◌, ◌&&◌, ◌||◌, Bool, true, false, Option, None, Some, MatchOption, Result, Ok, Err, MatchResult, List, [], ◌∷◌, length, take, nat_eq, nat_le, nat_lt, not, find, ok_or, replicate, refl, sym, subst, if◌then◌else◌}
 use Rattle.std.specs.Prelude.{⊤}
 use Rattle.std.specs.List.{list_any}
 use Rattle.std.specs.FinMap as map
@@ -20,9 +20,9 @@ use Rattle.ck_model.specs.Walk.{walk, node_at, file_at, directory_at, name_at, n
 use Rattle.ck_model.specs.Space.{fits, blocks_fit, held, records_in, no_space, given_up, without_picks, new_block_count}
 use Rattle.ck_model.specs.Streams.{Texts}
 use Rattle.ck_model.specs.Changing.{is_spent, has_names, file_limit, made, removed, removed_directory, moved, overwritten, truncated}
-use Rattle.ck_model.specs.Freezing.{frozen_world, new_id, checkpoint_named, older_than, any_keeps, as_nodata, with_changed, dropped, with_flag, restored, mounted, mounted_id, dismounted, standing, mounted_checkpoint, with_data}
-use Rattle.ck_model.specs.Reporting.{range_read, names_listed, stat_reply, status_of, listing_of, checkpoint_read, checkpoint_names, full_stream, changed_stream}
-use Rattle.ck_model.specs.Step.{Outcome, told, outcome_of, answered, done, with_room, changing, created, converted, step}
+use Rattle.ck_model.specs.Freezing.{frozen_world, new_id, checkpoint_named, older_than, any_keeps, dropped, with_flag, restored, mounted, mounted_id, dismounted, standing, mounted_checkpoint, with_data}
+use Rattle.ck_model.specs.Reporting.{range_read, names_listed, stat_reply, status_of, checkpoint_read, checkpoint_names, full_stream, changed_stream}
+use Rattle.ck_model.specs.Step.{Outcome, outcome_of, answered, done, with_room, changing, created, converted, step}
 
 -- whether a reply lists checkpoints, or names
 abbrev pub lists : Reply → Option Bool

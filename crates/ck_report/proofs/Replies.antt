@@ -1,6 +1,5 @@
 -- Replies with the same text are the same, but for what the text leaves out.
-use Rattle.std.proofs.Common.{◌≡◌, ◌≤◌, ◌<◌, ℕ, ◌+◌, ◌*◌, ◌&&◌, Bool, true, false, cond, Option, Some, None, MatchOption, List, [], ◌∷◌, ◌++◌, length, drop, slice_index, map as list_map, nat_eq, nat_le, codes, eq-eqb, refl, sym, ap, subst, ◌∙◌, append_assoc, if◌then◌else◌, arith}
-use Rattle.std.specs.Prelude.{⊤}
+use Rattle.std.proofs.Common.{◌≡◌, ◌≤◌, ◌<◌, ℕ, ◌+◌, ◌*◌, ◌&&◌, Bool, true, false, List, [], ◌∷◌, ◌++◌, length, drop, slice_index, map as list_map, nat_eq, nat_le, codes, eq-eqb, refl, sym, ap, ◌∙◌, append_assoc, if◌then◌else◌, arith}
 use Rattle.std.specs.List.{AllByRecursion, flat_map, list_all}
 use Rattle.std.specs.Fmt.{decimal}
 use Rattle.std.proofs.lemmas.Bool.Decides.{nat_tests}
@@ -18,7 +17,7 @@ use Rattle.ck_model.specs.Name.{IsName, IsNameByte}
 use Rattle.ck_report.specs.Words.{child_words, state_word, keep_word, line_words, space_word, number_words, share_words, checkpoints_words, digest_in, counts_words, stream_words, reply_words}
 use Rattle.ck_report.specs.Printed.{IsNumber, IsProper, IsProperLine, IsProperListing, IsProperDirectory, printed_child, printed_reply}
 use Rattle.ck_report.proofs.Splitting.{Ends, split, IsDigit, number_first, no_digit, no_digit_above, first_digit, bytes_tell, digest_bytes, name_bytes, low_ends_name, slash_ends_name}
-use Rattle.ck_report.proofs.Forms.{lists, Answers}
+use Rattle.ck_report.proofs.Forms.{Answers}
 
 -- names in directories
 

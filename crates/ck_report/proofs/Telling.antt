@@ -1,5 +1,5 @@
 -- The text of a legal history tells it.
-use Rattle.std.proofs.Common.{◌≡◌, ◌≤◌, ℕ, Bool, true, false, Option, Some, None, MatchOption, MatchBool, IsSomeAnd, List, [], ◌∷◌, ◌++◌, drop, map as list_map, nat_le, codes, refl, sym, ap, subst, ◌∙◌, append_assoc, if◌then◌else◌}
+use Rattle.std.proofs.Common.{◌≡◌, ◌≤◌, ℕ, true, false, Option, Some, None, MatchOption, MatchBool, IsSomeAnd, List, [], ◌∷◌, ◌++◌, drop, refl, sym, ap, subst, ◌∙◌, append_assoc}
 use Rattle.std.specs.List.{AllByRecursion}
 use Rattle.std.specs.Option.{option_map_or}
 use Rattle.std.specs.Fmt.{decimal}
@@ -14,7 +14,7 @@ use Rattle.ck_model.specs.Step.{step}
 use Rattle.ck_model.specs.History.{Past, CallsBy, begun, past_after, is_fault, IsStepOf, IsLegalAt, IsLegalWhole, IsRefusal, IsLegalNext, IsLegalFrom}
 use Rattle.ck_report.specs.Words.{call_words, reply_words}
 use Rattle.ck_report.specs.Transcript.{entry_head, answer_text, entry_line, entry_text, transcript_text}
-use Rattle.ck_report.specs.Printed.{IsNumber, IsProperEntry, TextsTell, printed, printed_entry, printed_reply}
+use Rattle.ck_report.specs.Printed.{IsProperEntry, TextsTell, printed, printed_entry}
 use Rattle.ck_report.proofs.Splitting.{Ends, IsDigit, number_first}
 use Rattle.ck_report.proofs.Forms.{lists, asks_checkpoints, Answers, plain-answers, step-answers}
 use Rattle.ck_report.proofs.Replies.{no_digit_32, no_digit_46, number_before, replies_tell}

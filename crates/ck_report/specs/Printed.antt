@@ -6,7 +6,7 @@ use Rattle.ck_model.specs.declared.checkpoint.CkptLine.{CkptLine}
 use Rattle.ck_model.specs.declared.child.Child.{Child}
 use Rattle.ck_model.specs.declared.entry.Entry.{Entry}
 use Rattle.ck_model.specs.declared.reply.Reply.{Reply}
-use Rattle.ck_model.specs.declared.reply.Reply.TheVariants.{Done, Delayed, Bytes, Names, StatFile, StatDir, Created, Listing, Info, Streamed, TooBig, TooMany, Gone, NoData, NotNewer, NoSpace, Broken}
+use Rattle.ck_model.specs.declared.reply.Reply.TheVariants.{Bytes, Names, StatFile, StatDir, Created, Listing, Info, Streamed, TooBig, TooMany, Gone, NoData, NotNewer, NoSpace, Broken}
 use Rattle.ck_model.specs.Name.{IsName}
 use Rattle.ck_model.specs.World.{World}
 use Rattle.ck_model.specs.Streams.{Texts}
