@@ -11,6 +11,7 @@ ghost use Rattle.ck_model.specs.World.{World, unmounted};
 ghost use Rattle.ck_volume.specs.Allocating.{KeepsBusy};
 ghost use Rattle.ck_volume.specs.Built.{IsBuilt, IsQuiet};
 ghost use Rattle.ck_volume.specs.Files.{AreFiles};
+ghost use Rattle.ck_volume.specs.Freezing.{Freezes};
 ghost use Rattle.ck_push.specs.Growth.{gains, losses, write_count};
 ghost use Rattle.ck_tree.specs.Plan.{IsChanging, IsPlan, changed_by};
 ghost use Rattle.ck_volume.specs.Room.{answered_with, has_room};
@@ -171,6 +172,7 @@ impl<D: Disk> Volume<D> {
             step texts (world_on store (mounts_of self.old) (table_of self.old)) actor moment call.now
             ≡ answered_with reply (world_on store (mounts_of self.new) (table_of self.new))) }
         ensures ordinary { IfOk result (λ reply. is_fault reply ≡ false) }
+        ensures freezes { IfOk result (λ reply. Freezes call.now moment reply (table_of self.old) (table_of self.new)) }
         ensures err_table { OnErr result (table_of self.new ≡ table_of self.old) }
         ensures err_mounts { OnErr result (mounts_of self.new ≡ mounts_of self.old) }
     {
@@ -203,6 +205,7 @@ impl<D: Disk> Volume<D> {
             step texts (world_of (D.means (disk_of self.old)).shows self.old) actor moment call.now
             ≡ answered_with reply (world_of (D.means (disk_of self.new)).shows self.new)) }
         ensures ordinary { IfOk result (λ reply. is_fault reply ≡ false) }
+        ensures freezes { IfOk result (λ reply. Freezes call.now moment reply (table_of self.old) (table_of self.new)) }
         ensures err { OnErr result (world_of (D.means (disk_of self.new)).shows self.new ≡ world_of (D.means (disk_of self.old)).shows self.old) }
         ensures fault { IfErr result (λ fault. fault ≡ no_memory) }
     {
@@ -228,6 +231,7 @@ impl<D: Disk> Volume<D> {
             step texts (world_of (D.means (disk_of self.old)).shows self.old) actor moment call.now
             ≡ answered_with reply (world_of (D.means (disk_of self.new)).shows self.new)) }
         ensures ordinary { IfOk result (λ reply. is_fault reply ≡ false) }
+        ensures freezes { IfOk result (λ reply. Freezes call.now moment reply (table_of self.old) (table_of self.new)) }
         ensures err { OnErr result (IsTrue (D.means (disk_of self.old)).tells → world_of (D.means (disk_of self.new)).shows self.new ≡ world_of (D.means (disk_of self.old)).shows self.old) }
         ensures fault { IfErr result (IsWritingFault (D.means (disk_of self.old)) (D.means (disk_of self.new))) }
 

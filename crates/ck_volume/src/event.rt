@@ -6,9 +6,10 @@ ghost use Rattle.ck_model.specs.Streams.{Texts};
 ghost use Rattle.ck_model.specs.World.{World, unmounted};
 ghost use Rattle.ck_model.specs.History.{CallsBy, is_fault, is_write_fault, is_broken};
 ghost use Rattle.ck_volume.specs.Built.{IsBuilt};
+ghost use Rattle.ck_volume.specs.Freezing.{Freezes};
 ghost use Rattle.ck_volume.specs.declared.event.Turn.TheVariants.{Answered};
 ghost use Rattle.ck_volume.specs.declared.event.Progress.TheVariants.{Fresh};
-ghost use Rattle.ck_volume.specs.Volume.{disk_of, log_of, history_of, room_of, length_of, broken_of, world_of, past_on, newest, Answers, IsWhole, IsReady, KeepsWorld, Runs, Survives, Follows, HasCause, IsEntryOf};
+ghost use Rattle.ck_volume.specs.Volume.{disk_of, table_of, log_of, history_of, room_of, length_of, broken_of, world_of, past_on, newest, Answers, IsWhole, IsReady, KeepsWorld, Runs, Survives, Follows, HasCause, IsEntryOf};
 
 use crate::{Fault, Volume};
 use ck_disk::Disk;
@@ -50,6 +51,7 @@ impl<D: Disk> Volume<D> {
         requires unbroken { broken_of self.old ≡ None }
         ensures answers { IsTrue (D.means (disk_of self.old)).tells → (texts : Texts) → Answers texts (world_of (D.means (disk_of self.old)).shows self.old) actor moment call.now result (world_of (D.means (disk_of self.new)).shows self.new) }
         ensures ready { IsReady (D.means (disk_of self.new)) self.new }
+        ensures freezes { Freezes call.now moment result (table_of self.old) (table_of self.new) }
         ensures log { log_of self.new ≡ log_of self.old }
         ensures broken { broken_of self.new ≡ (if is_write_fault result then Some (length_of self.old) else None) }
         ensures not_refused { is_broken result ≡ false }
@@ -96,6 +98,9 @@ impl<D: Disk> Volume<D> {
         ensures follows { IsTrue (D.means (disk_of self.old)).tells → (texts : Texts) (calls : CallsBy) → calls actor seq ≡ Some call.now
             → Follows texts calls (past_on (D.means (disk_of self.old)).shows self.old) (newest (history_of self.new)) (past_on (D.means (disk_of self.new)).shows self.new) }
         ensures ready { IsReady (D.means (disk_of self.new)) self.new }
+
+        // A checkpoint costs one record: nothing is copied.
+        ensures freezes { Freezes call.now at (newest (history_of self.new)).reply (table_of self.old) (table_of self.new) }
 
         // A failed write breaks it; once it is broken it says so, and leaves the device alone.
         ensures broken { broken_of self.new ≡ option_or (broken_of self.old) (if is_write_fault (newest (history_of self.new)).reply then Some (length_of self.old) else None) }

@@ -1,13 +1,14 @@
-ghost use Rattle.std.specs.Prelude.{◌≡◌, false};
+ghost use Rattle.std.specs.Prelude.{◌≡◌, false, IsSome};
+ghost use Rattle.ck_model.specs.declared.checkpoint.Kind.TheVariants.{Keeping};
 ghost use Rattle.ck_model.specs.declared.reply.SpaceOf.TheVariants.{Records};
 ghost use Rattle.ck_model.specs.declared.reply.Reply.TheVariants.{NoSpace};
 ghost use Rattle.ck_model.specs.World.{Mounts};
-ghost use Rattle.ck_model.specs.History.{is_fault};
+ghost use Rattle.ck_model.specs.History.{created_id, is_fault};
 ghost use Rattle.ck_model.specs.Name.{IsCheckpointName};
 ghost use Rattle.ck_model.specs.Step.{created};
 ghost use Rattle.ck_model.specs.Values.{Store};
 ghost use Rattle.ck_model.specs.Standing.{world_on};
-ghost use Rattle.ck_table.specs.Adding.{new_id};
+ghost use Rattle.ck_table.specs.Adding.{new_fileset, new_id, with_added};
 ghost use Rattle.ck_volume.specs.Freezing.{refusal_of, refused_or};
 ghost use Rattle.ck_volume.specs.Plain.{IsOurs};
 ghost use Rattle.ck_volume.specs.Room.{answered_with};
@@ -50,6 +51,8 @@ pub fn create<M: Meta>(meta: &mut M, limits: Limits, name: &NameBytes, at: u64) 
         created (world_on store mounts (M.table meta.old)) name.now false false at
         ≡ answered_with result (world_on store mounts (M.table meta.new)) }
     ensures ordinary { is_fault result ≡ false }
+    ensures added { IsSome (created_id result)
+        → M.table meta.new ≡ with_added (M.table meta.old) (new_fileset name.now Keeping false at) }
     ensures ours { IsOurs (M.table meta.new) }
     ensures entries { (M.table meta.new).entries ≡ (M.table meta.old).entries }
     ensures blocks { (M.table meta.new).blocks ≡ (M.table meta.old).blocks }

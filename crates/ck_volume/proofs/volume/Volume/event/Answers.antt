@@ -1,4 +1,4 @@
-use Rattle.std.proofs.Common.{◌≡◌, ℕ, ◌∷◌, ◌++◌, [], Option, Some, None, MatchOption, if◌then◌else◌, false, sym, ap, subst, ◌∙◌, rules}
+use Rattle.std.proofs.Common.{◌≡◌, ℕ, ◌∷◌, ◌++◌, [], Option, Some, None, MatchOption, IsSome, if◌then◌else◌, false, sym, ap, subst, ◌∙◌, rules}
 use Rattle.std.specs.Option.{option_or}
 use mathlib.Core.Bool.{false≢true}
 use Rattle.ck_history.specs.History.{entries_of}
@@ -7,7 +7,7 @@ use Rattle.ck_model.specs.declared.entry.Entry.{Entry}
 use Rattle.ck_model.specs.declared.reply.Reply.{Reply}
 use Rattle.ck_model.specs.declared.reply.Reply.TheVariants.{Broken}
 use Rattle.ck_model.specs.World.{World}
-use Rattle.ck_model.specs.History.{is_fault, is_write_fault, is_broken}
+use Rattle.ck_model.specs.History.{created_id, is_fault, is_write_fault, is_broken}
 use Rattle.ck_volume.specs.Volume.{HasCause, history_of, length_of, newest, world_of}
 use Rattle.ck_volume.proofs.Following.{newest-put, added-put, longer-put, is-entry, broken-cause, broken-put, answered-put}
 use Rattle.ck_volume.proofs.volume.Volume.event.Goals as goal
@@ -64,6 +64,15 @@ returns-in-Some-clause-synced g c = λ is_sync ordinary told w keeps.
     let same : newest after ≡ c.entry_of.result = newest-put before after c.entry_of.result put in
     let replied : (newest after).reply ≡ Broken c.in-Some.entry = ap (λ (e : Entry). e.reply) (same ∙ c.entry_of.ensures) in
     absurd (false≢true (sym ordinary ∙ ap is_fault replied))
+
+pub returns-in-Some-clause-freezes : goal.returns-in-Some-clause-freezes
+returns-in-Some-clause-freezes g c = λ name nodata removable is_create created.
+    let before = history_of c.args.self.now in
+    let after = entries_of c.put.new.self in
+    let put : after ≡ before ++ c.entry_of.result ∷ [] = c.put.ensures.entries in
+    let same : newest after ≡ c.entry_of.result = newest-put before after c.entry_of.result put in
+    let replied : (newest after).reply ≡ Broken c.in-Some.entry = ap (λ (e : Entry). e.reply) (same ∙ c.entry_of.ensures) in
+    absurd (false≢true (subst IsSome (ap created_id replied) created))
 
 -- ---- where it was answered
 
@@ -135,3 +144,12 @@ returns-clause-synced g c = λ is_sync ordinary told w keeps.
     let replied : (newest after).reply ≡ c.answer-reply.result = ap (λ (e : Entry). e.reply) (same ∙ c.entry_of-2.ensures) in
     let keeps_after = c.answer-reply.ensures.synced is_sync (sym (ap is_fault replied) ∙ ordinary) told w keeps in
     record { table = keeps_after.table; committed = keeps_after.committed }
+
+pub returns-clause-freezes : goal.returns-clause-freezes
+returns-clause-freezes g c = λ name nodata removable is_create created.
+    let before = history_of c.args.self.now in
+    let after = entries_of c.put-2.new.self in
+    let put : after ≡ before ++ c.entry_of-2.result ∷ [] = c.put-2.ensures.entries ∙ ap (λ (h : History). entries_of h ++ c.entry_of-2.result ∷ []) c.answer-reply.ensures.log in
+    let same : newest after ≡ c.entry_of-2.result = newest-put before after c.entry_of-2.result put in
+    let replied : (newest after).reply ≡ c.answer-reply.result = ap (λ (e : Entry). e.reply) (same ∙ c.entry_of-2.ensures) in
+    c.answer-reply.ensures.freezes name nodata removable is_create (subst IsSome (ap created_id replied) created)
