@@ -177,24 +177,24 @@ ends_opened source left clock old new before mid after law mid_law read w status
     (ends_play source left clock old new before mid after law read w p.history p.committed script bare recovers opened p.played p.committed refl p.printed p.whole p.fault))
     ends
 
-print_begun : (old new : SinkMeaning) (calls : CallsBy) (history : List Entry) (status : Status) → IsPrintFault old new calls history status → leaves_device status ≡ false
-print_begun old new calls history Done fault = absurd fault
-print_begun old new calls history (Refused words) fault = absurd fault
-print_begun old new calls history Usage fault = absurd fault
-print_begun old new calls history (BadScript line) fault = absurd fault
-print_begun old new calls history (NotOpened words) fault = absurd fault
-print_begun old new calls history DeviceFault fault = absurd fault
-print_begun old new calls history SourceFault fault = absurd fault
-print_begun old new calls history SinkFault fault = refl
-print_begun old new calls history NoMemory fault = refl
+print_begun : (old new : SinkMeaning) (asked : CallsBy) (history : List Entry) (status : Status) → IsPrintFault old new asked history status → leaves_device status ≡ false
+print_begun old new asked history Done fault = absurd fault
+print_begun old new asked history (Refused words) fault = absurd fault
+print_begun old new asked history Usage fault = absurd fault
+print_begun old new asked history (BadScript line) fault = absurd fault
+print_begun old new asked history (NotOpened words) fault = absurd fault
+print_begun old new asked history DeviceFault fault = absurd fault
+print_begun old new asked history SourceFault fault = absurd fault
+print_begun old new asked history SinkFault fault = refl
+print_begun old new asked history NoMemory fault = refl
 
 -- a play ends with a status that comes once the device was opened
-pub play_begun : (old new : SinkMeaning) (calls : CallsBy) (history : List Entry) (committed : CommitAnswer) (printed : Result (Unit {0}) Status) → IfErr printed (λ status. IsPrintFault old new calls history status) → leaves_device (play_status committed printed) ≡ false
-play_begun old new calls history answer.Done (Ok done) fault = refl
-play_begun old new calls history answer.Done (Err status) fault = print_begun old new calls history status fault
-play_begun old new calls history answer.WriteFault printed fault = refl
-play_begun old new calls history (answer.Broken number) printed fault = refl
-play_begun old new calls history answer.NoMemory printed fault = refl
+pub play_begun : (old new : SinkMeaning) (asked : CallsBy) (history : List Entry) (committed : CommitAnswer) (printed : Result (Unit {0}) Status) → IfErr printed (λ status. IsPrintFault old new asked history status) → leaves_device (play_status committed printed) ≡ false
+play_begun old new asked history answer.Done (Ok done) fault = refl
+play_begun old new asked history answer.Done (Err status) fault = print_begun old new asked history status fault
+play_begun old new asked history answer.WriteFault printed fault = refl
+play_begun old new asked history (answer.Broken number) printed fault = refl
+play_begun old new asked history answer.NoMemory printed fault = refl
 
 -- it ends with a status that comes once the device was opened
 pub ends_begun : (script : List (ℕ × Call)) (clock : ClockMeaning) (w : World) (mid after : Meaning) (old new : SinkMeaning) (status : Status) → EndsOn script clock w mid after old new status → leaves_device status ≡ false
