@@ -9,7 +9,6 @@ use Rattle.ck_model.specs.World.{World, unmounted}
 use Rattle.ck_model.specs.History.{CallsBy, call_at, is_write_fault}
 use Rattle.ck_report.specs.declared.status.Status.{Status}
 use Rattle.ck_report.specs.declared.status.Status.TheVariants.{Done, Refused, Usage, BadScript, NotOpened, DeviceFault, SourceFault, SinkFault, NoMemory}
-use Rattle.ck_report.specs.Transcript.{transcript_text}
 use Rattle.ck_script.specs.Numbered.{calls_in}
 use Rattle.ck_script.specs.Reading.{Parsed, read_script}
 use Rattle.ck_io.specs.Clock.{ClockMeaning}
@@ -71,9 +70,6 @@ module _ (source left : SourceMeaning) (clock : ClockMeaning) (old new : SinkMea
   abbrev calls : CallsBy
   calls = call_at (calls_in read.calls)
 
-  abbrev text : List ℕ
-  text = transcript_text calls history
-
   told_mid : IsTrue before.tells → IsTrue mid.tells
   told_mid told = subst IsTrue (sym opened.tells) told
 
@@ -116,7 +112,7 @@ module _ (source left : SourceMeaning) (clock : ClockMeaning) (old new : SinkMea
     at_the_end = λ image may. cut_from (synced_count calls history) image (played.at_the_end image may);
   }
 
-  prints : (E : CallsBy → World → List Entry → Type 0) (P : List ℕ → Type 0) → E calls w history → P text → PrintsPlay source clock before after E P
+  prints : (E : CallsBy → World → List Entry → Type 0) (P : CallsBy → List Entry → Type 0) → E calls w history → P calls history → PrintsPlay source clock before after E P
   prints E P ends printed = record { read = read; world = w; history = history; script = script; recovers = recovers; play = from_before; leaves = cuts; ends = ends; printed = printed }
 
   ends_whole : committed ≡ answer.Done → EndsWhole after calls w history
@@ -129,7 +125,7 @@ module _ (source left : SourceMeaning) (clock : ClockMeaning) (old new : SinkMea
   lost_nothing found = played.lost ∙ found
 
   -- what printing gained, however it ended
-  gained_fault : (status : Status) → IsPrintFault old new text status → GainsAllOrNothing old new text
+  gained_fault : (status : Status) → IsPrintFault old new calls history status → GainsAllOrNothing old new calls history
   gained_fault Done fault = absurd fault
   gained_fault (Refused words) fault = absurd fault
   gained_fault Usage fault = absurd fault
@@ -137,14 +133,14 @@ module _ (source left : SourceMeaning) (clock : ClockMeaning) (old new : SinkMea
   gained_fault (NotOpened words) fault = absurd fault
   gained_fault DeviceFault fault = absurd fault
   gained_fault SourceFault fault = absurd fault
-  gained_fault SinkFault fault = inr (inr (fault.cause, fault.part))
+  gained_fault SinkFault fault = inr (inr (fault.cause, record { front = fault.part; proper = fault.proper }))
   gained_fault NoMemory fault = inr (inl fault)
 
-  gained : (printed : Result (Unit {0}) Status) → OnOk printed (Gains old new text) → IfErr printed (λ status. IsPrintFault old new text status) → GainsAllOrNothing old new text
+  gained : (printed : Result (Unit {0}) Status) → OnOk printed (Gains old new calls history) → IfErr printed (λ status. IsPrintFault old new calls history status) → GainsAllOrNothing old new calls history
   gained (Ok done) whole fault = inl whole
   gained (Err status) whole fault = gained_fault status fault
 
-  unprinted : committed ≡ answer.Done → (status : Status) → IsPrintFault old new text status → EndsPlay source left clock old new before after status
+  unprinted : committed ≡ answer.Done → (status : Status) → IsPrintFault old new calls history status → EndsPlay source left clock old new before after status
   unprinted done Done fault = absurd fault
   unprinted done (Refused words) fault = absurd fault
   unprinted done Usage fault = absurd fault
@@ -152,14 +148,14 @@ module _ (source left : SourceMeaning) (clock : ClockMeaning) (old new : SinkMea
   unprinted done (NotOpened words) fault = absurd fault
   unprinted done DeviceFault fault = absurd fault
   unprinted done SourceFault fault = absurd fault
-  unprinted done SinkFault fault = (fault.cause, prints (EndsWhole after) (GainsFront old new) (ends_whole done) fault.part)
+  unprinted done SinkFault fault = (fault.cause, prints (EndsWhole after) (GainsFront old new) (ends_whole done) (record { front = fault.part; proper = fault.proper }))
   unprinted done NoMemory fault = inr (prints LostNothing (GainsAllOrNothing old new) (lost_nothing (ap found_broken done)) (inr (inl fault)))
 
-  lost_write : Rose before.write_faults after.write_faults → (printed : Result (Unit {0}) Status) → OnOk printed (Gains old new text) → IfErr printed (λ status. IsPrintFault old new text status)
+  lost_write : Rose before.write_faults after.write_faults → (printed : Result (Unit {0}) Status) → OnOk printed (Gains old new calls history) → IfErr printed (λ status. IsPrintFault old new calls history status)
       → EndsPlay source left clock old new before after DeviceFault
   lost_write rose printed whole fault = inr (rose, prints EndsAnyhow (GainsAllOrNothing old new) tt (gained printed whole fault))
 
-  pub ends_play : (how : CommitAnswer) → committed ≡ how → (printed : Result (Unit {0}) Status) → OnOk printed (Gains old new text) → IfErr printed (λ status. IsPrintFault old new text status)
+  pub ends_play : (how : CommitAnswer) → committed ≡ how → (printed : Result (Unit {0}) Status) → OnOk printed (Gains old new calls history) → IfErr printed (λ status. IsPrintFault old new calls history status)
       → EndsPlay source left clock old new before after (play_status how printed)
   ends_play answer.Done is (Ok done) whole fault = prints (EndsWhole after) (Gains old new) (ends_whole is) whole
   ends_play answer.Done is (Err status) whole fault = unprinted is status fault
@@ -181,24 +177,24 @@ ends_opened source left clock old new before mid after law mid_law read w status
     (ends_play source left clock old new before mid after law read w p.history p.committed script bare recovers opened p.played p.committed refl p.printed p.whole p.fault))
     ends
 
-print_begun : (old new : SinkMeaning) (text : List ℕ) (status : Status) → IsPrintFault old new text status → leaves_device status ≡ false
-print_begun old new text Done fault = absurd fault
-print_begun old new text (Refused words) fault = absurd fault
-print_begun old new text Usage fault = absurd fault
-print_begun old new text (BadScript line) fault = absurd fault
-print_begun old new text (NotOpened words) fault = absurd fault
-print_begun old new text DeviceFault fault = absurd fault
-print_begun old new text SourceFault fault = absurd fault
-print_begun old new text SinkFault fault = refl
-print_begun old new text NoMemory fault = refl
+print_begun : (old new : SinkMeaning) (asked : CallsBy) (history : List Entry) (status : Status) → IsPrintFault old new asked history status → leaves_device status ≡ false
+print_begun old new asked history Done fault = absurd fault
+print_begun old new asked history (Refused words) fault = absurd fault
+print_begun old new asked history Usage fault = absurd fault
+print_begun old new asked history (BadScript line) fault = absurd fault
+print_begun old new asked history (NotOpened words) fault = absurd fault
+print_begun old new asked history DeviceFault fault = absurd fault
+print_begun old new asked history SourceFault fault = absurd fault
+print_begun old new asked history SinkFault fault = refl
+print_begun old new asked history NoMemory fault = refl
 
 -- a play ends with a status that comes once the device was opened
-pub play_begun : (old new : SinkMeaning) (text : List ℕ) (committed : CommitAnswer) (printed : Result (Unit {0}) Status) → IfErr printed (λ status. IsPrintFault old new text status) → leaves_device (play_status committed printed) ≡ false
-play_begun old new text answer.Done (Ok done) fault = refl
-play_begun old new text answer.Done (Err status) fault = print_begun old new text status fault
-play_begun old new text answer.WriteFault printed fault = refl
-play_begun old new text (answer.Broken number) printed fault = refl
-play_begun old new text answer.NoMemory printed fault = refl
+pub play_begun : (old new : SinkMeaning) (asked : CallsBy) (history : List Entry) (committed : CommitAnswer) (printed : Result (Unit {0}) Status) → IfErr printed (λ status. IsPrintFault old new asked history status) → leaves_device (play_status committed printed) ≡ false
+play_begun old new asked history answer.Done (Ok done) fault = refl
+play_begun old new asked history answer.Done (Err status) fault = print_begun old new asked history status fault
+play_begun old new asked history answer.WriteFault printed fault = refl
+play_begun old new asked history (answer.Broken number) printed fault = refl
+play_begun old new asked history answer.NoMemory printed fault = refl
 
 -- it ends with a status that comes once the device was opened
 pub ends_begun : (script : List (ℕ × Call)) (clock : ClockMeaning) (w : World) (mid after : Meaning) (old new : SinkMeaning) (status : Status) → EndsOn script clock w mid after old new status → leaves_device status ≡ false
@@ -206,7 +202,7 @@ ends_begun script clock w mid after old new status ends =
     ⊎_elim
     (λ (un : IsUnplayed mid after old new status). ap leaves_device un.status_is)
     (λ (p : IsPrinted script clock w mid after old new status).
-    ap leaves_device p.status_is ∙ play_begun old new (transcript_text (call_at script) p.history) p.committed p.printed p.fault)
+    ap leaves_device p.status_is ∙ play_begun old new (call_at script) p.history p.committed p.printed p.fault)
     ends
 
 -- ---- a device that isn't opened

@@ -9,7 +9,6 @@ use Rattle.ck_model.specs.History.{call_at}
 use Rattle.ck_model.specs.World.{World}
 use Rattle.ck_report.specs.declared.status.Status.{Status}
 use Rattle.ck_report.specs.declared.status.Status.TheVariants.{NoMemory}
-use Rattle.ck_report.specs.Transcript.{transcript_text}
 use Rattle.ck_volume.specs.declared.closing.CommitAnswer.{CommitAnswer}
 use Rattle.ck_admin.specs.Crash.{IsPlayed}
 use Rattle.ck_admin.specs.Statuses.{IsPrintFault, play_status}
@@ -21,8 +20,8 @@ pub record IsPrinted (script : List (ℕ × Call)) (clock : ClockMeaning) (w : W
   pub committed : CommitAnswer
   pub printed : Result (Unit {0}) Status
   pub played : IsPlayed script clock w mid after history committed
-  pub whole : OnOk printed (Gains old new (transcript_text (call_at script) history))
-  pub fault : IfErr printed (λ status. IsPrintFault old new (transcript_text (call_at script) history) status)
+  pub whole : OnOk printed (Gains old new (call_at script) history)
+  pub fault : IfErr printed (λ status. IsPrintFault old new (call_at script) history status)
   pub status_is : status ≡ play_status committed printed
 
 -- memory was refused before the first event

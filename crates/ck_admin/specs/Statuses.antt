@@ -1,8 +1,12 @@
 -- Why reading a script, or printing a transcript, ends with a status.
 use Rattle.std.specs.Prelude.{◌≡◌, ◌⊎◌, ℕ, List, Option, Some, None, IsTrue, Result, Ok, Err}
 use Rattle.ck_disk.specs.Disk.{Meaning, LeavesOnly, Rose}
+use Rattle.ck_model.specs.declared.entry.Entry.{Entry}
+use Rattle.ck_model.specs.History.{CallsBy}
 use Rattle.ck_report.specs.declared.status.Status.{Status}
 use Rattle.ck_report.specs.declared.status.Status.TheVariants.{Done, Refused, Usage, BadScript, NotOpened, DeviceFault, SourceFault, SinkFault, NoMemory}
+use Rattle.ck_report.specs.Printed.{AreProper}
+use Rattle.ck_report.specs.Transcript.{transcript_text}
 use Rattle.ck_io.specs.Bytes.{GainsPrefix}
 use Rattle.ck_io.specs.Faults as io
 use Rattle.ck_io.specs.Sink.{SinkMeaning}
@@ -25,21 +29,22 @@ IsReadFault old new SourceFault = io.Rose old.faults new.faults
 IsReadFault old new SinkFault = ⊥
 IsReadFault old new NoMemory = Unit {0}
 
--- the sink failed and gained the front of the text, or memory was refused and it gained nothing
-pub record GainsInPart (old new : SinkMeaning) (text : List ℕ) : Type 0 where
+-- the sink failed and gained the front of a history's text, or memory was refused and it gained nothing
+pub record GainsInPart (old new : SinkMeaning) (calls : CallsBy) (history : List Entry) : Type 0 where
   pub cause : io.Rose old.faults new.faults
-  pub part : IsTrue old.tells → GainsPrefix old.holds new.holds text
+  pub part : IsTrue old.tells → GainsPrefix old.holds new.holds (transcript_text calls history)
+  pub proper : AreProper calls history
 
-abbrev pub IsPrintFault : SinkMeaning → SinkMeaning → List ℕ → Status → Type 0
-IsPrintFault old new text Done = ⊥
-IsPrintFault old new text (Refused words) = ⊥
-IsPrintFault old new text Usage = ⊥
-IsPrintFault old new text (BadScript line) = ⊥
-IsPrintFault old new text (NotOpened words) = ⊥
-IsPrintFault old new text DeviceFault = ⊥
-IsPrintFault old new text SourceFault = ⊥
-IsPrintFault old new text SinkFault = GainsInPart old new text
-IsPrintFault old new text NoMemory = IsTrue old.tells → new.holds ≡ old.holds
+abbrev pub IsPrintFault : SinkMeaning → SinkMeaning → CallsBy → List Entry → Status → Type 0
+IsPrintFault old new calls history Done = ⊥
+IsPrintFault old new calls history (Refused words) = ⊥
+IsPrintFault old new calls history Usage = ⊥
+IsPrintFault old new calls history (BadScript line) = ⊥
+IsPrintFault old new calls history (NotOpened words) = ⊥
+IsPrintFault old new calls history DeviceFault = ⊥
+IsPrintFault old new calls history SourceFault = ⊥
+IsPrintFault old new calls history SinkFault = GainsInPart old new calls history
+IsPrintFault old new calls history NoMemory = IsTrue old.tells → new.holds ≡ old.holds
 
 -- ---- opening
 

@@ -8,6 +8,7 @@ use Rattle.ck_model.specs.Streams.{Texts}
 use Rattle.ck_model.specs.World.{World, unmounted}
 use Rattle.ck_report.specs.declared.status.Status.{Status}
 use Rattle.ck_report.specs.declared.status.Status.TheVariants.{Done, Refused, Usage, BadScript, NotOpened, DeviceFault, SourceFault, SinkFault, NoMemory}
+use Rattle.ck_report.specs.Printed.{AreProper}
 use Rattle.ck_report.specs.Transcript.{transcript_text}
 use Rattle.ck_io.specs.Bytes.{GainsPrefix}
 use Rattle.ck_io.specs.Clock.{ClockMeaning}
@@ -26,10 +27,10 @@ use Rattle.ck_admin.specs.Play.{IsPlay, lost_a_write}
 use Rattle.ck_admin.specs.Refusals.{bad_size_words}
 use Rattle.ck_admin.specs.Statuses.{IsRefused, DeviceRose}
 
--- What the source had left is a script, the device recovers to a world, and this is a play of the script from it. P holds
--- of the play's transcript, and E of its calls, its world and its history. A source that doesn't tell what it had left may
+-- What the source had left is a script, the device recovers to a world, and this is a play of the script from it. P says
+-- what was printed of its history, and E holds of its calls, its world and its history. A source that doesn't tell what it had left may
 -- have had any script.
-pub record PrintsPlay (source : SourceMeaning) (clock : ClockMeaning) (before after : Meaning) (E : CallsBy → World → List Entry → Type 0) (P : List ℕ → Type 0) : Type 0 where
+pub record PrintsPlay (source : SourceMeaning) (clock : ClockMeaning) (before after : Meaning) (E : CallsBy → World → List Entry → Type 0) (P : CallsBy → List Entry → Type 0) : Type 0 where
   pub read : Parsed
   pub world : World
   pub history : List Entry
@@ -38,7 +39,7 @@ pub record PrintsPlay (source : SourceMeaning) (clock : ClockMeaning) (before af
   pub play : IsPlay (calls_in read.calls) clock world before after history
   pub leaves : LeavesCuts (call_at (calls_in read.calls)) world before after history
   pub ends : E (call_at (calls_in read.calls)) world history
-  pub printed : P (transcript_text (call_at (calls_in read.calls)) history)
+  pub printed : P (call_at (calls_in read.calls)) history
 
 -- no write was lost, and each image has the world after the whole history, without its mounts and with nothing beside it
 pub record EndsWhole (after : Meaning) (calls : CallsBy) (world : World) (history : List Entry) : Type 0 where
@@ -51,20 +52,23 @@ EndsAnyhow calls world history = ⊤
 abbrev pub LostNothing : CallsBy → World → List Entry → Type 0
 LostNothing calls world history = lost_a_write history ≡ false
 
--- where the sink tells what it holds, it gained this text
-abbrev pub Gains : SinkMeaning → SinkMeaning → List ℕ → Type 0
-Gains old new text = IsTrue old.tells → new.holds ≡ old.holds ++ text
+-- Where the sink tells what it holds, it gained the history's text. The entries' numbers, bytes and names are such that
+-- the text tells them.
+pub record Gains (old new : SinkMeaning) (calls : CallsBy) (history : List Entry) : Type 0 where
+  pub text : IsTrue old.tells → new.holds ≡ old.holds ++ transcript_text calls history
+  pub proper : AreProper calls history
 
 -- the same of the front of the text
-abbrev pub GainsFront : SinkMeaning → SinkMeaning → List ℕ → Type 0
-GainsFront old new text = IsTrue old.tells → GainsPrefix old.holds new.holds text
+pub record GainsFront (old new : SinkMeaning) (calls : CallsBy) (history : List Entry) : Type 0 where
+  pub front : IsTrue old.tells → GainsPrefix old.holds new.holds (transcript_text calls history)
+  pub proper : AreProper calls history
 
 abbrev pub GainsNothing : SinkMeaning → SinkMeaning → Type 0
 GainsNothing old new = IsTrue old.tells → new.holds ≡ old.holds
 
 -- the whole text, or nothing, or, where the sink failed, the front of it
-abbrev pub GainsAllOrNothing : SinkMeaning → SinkMeaning → List ℕ → Type 0
-GainsAllOrNothing old new text = Gains old new text ⊎ (GainsNothing old new ⊎ (io.Rose old.faults new.faults × GainsFront old new text))
+abbrev pub GainsAllOrNothing : SinkMeaning → SinkMeaning → CallsBy → List Entry → Type 0
+GainsAllOrNothing old new calls history = Gains old new calls history ⊎ (GainsNothing old new ⊎ (io.Rose old.faults new.faults × GainsFront old new calls history))
 
 -- nothing was printed, and a crash leaves what it could leave before
 abbrev pub PlaysNothing : SinkMeaning → SinkMeaning → Meaning → Meaning → Type 0

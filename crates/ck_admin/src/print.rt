@@ -1,9 +1,8 @@
-ghost use Rattle.std.specs.Prelude.{◌≡◌, ◌++◌, ◌≤◌, IsTrue, OnOk, IfErr};
+ghost use Rattle.std.specs.Prelude.{◌≡◌, ◌≤◌, OnOk, IfErr};
 ghost use Rattle.ck_model.specs.History.{call_at};
 ghost use Rattle.ck_script.specs.Numbered.{calls_in};
-ghost use Rattle.ck_report.specs.Transcript.{transcript_text};
-ghost use Rattle.ck_io.specs.Bytes.{GainsPrefix};
 ghost use Rattle.ck_admin.specs.Statuses.{IsPrintFault};
+ghost use Rattle.ck_admin.specs.Top.{Gains};
 
 use ck_io::{Sink, write_all};
 use ck_model::Entry;
@@ -11,15 +10,15 @@ use ck_report::{Status, transcript};
 use ck_script::Script;
 use std::alloc::Global;
 
-/// Writes the transcript of a history.
+/// Writes the transcript of a history, which tells it.
 pub fn print<K: Sink>(
     alloc: Global,
     history: &[Entry],
     script: &Script,
     out: &mut K,
 ) -> Result<(), Status>
-    ensures whole { OnOk result (IsTrue (K.means out.old).tells → (K.means out.new).holds ≡ (K.means out.old).holds ++ transcript_text (call_at (calls_in script.now.calls)) history.now) }
-    ensures fault { IfErr result (λ status. IsPrintFault (K.means out.old) (K.means out.new) (transcript_text (call_at (calls_in script.now.calls)) history.now) status) }
+    ensures whole { OnOk result (Gains (K.means out.old) (K.means out.new) (call_at (calls_in script.now.calls)) history.now) }
+    ensures fault { IfErr result (λ status. IsPrintFault (K.means out.old) (K.means out.new) (call_at (calls_in script.now.calls)) history.now status) }
     ensures tells { (K.means out.new).tells ≡ (K.means out.old).tells }
     ensures faults { (K.means out.old).faults ≤ (K.means out.new).faults }
 {

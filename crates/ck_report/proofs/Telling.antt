@@ -1,6 +1,5 @@
 -- The text of a legal history tells it.
-use Rattle.std.proofs.Common.{◌≡◌, ◌≤◌, ℕ, true, false, Option, Some, None, MatchOption, MatchBool, IsSomeAnd, List, [], ◌∷◌, ◌++◌, drop, refl, sym, ap, subst, ◌∙◌, append_assoc}
-use Rattle.std.specs.List.{AllByRecursion}
+use Rattle.std.proofs.Common.{◌≡◌, ◌≤◌, ℕ, true, false, Option, Some, None, IfSome, MatchOption, MatchBool, IsSomeAnd, List, [], ◌∷◌, ◌++◌, drop, refl, sym, ap, subst, ◌∙◌, append_assoc}
 use Rattle.std.specs.Option.{option_map_or}
 use Rattle.std.specs.Fmt.{decimal}
 use Rattle.std.proofs.lemmas.List.{append_cancel_left}
@@ -14,7 +13,7 @@ use Rattle.ck_model.specs.Step.{step}
 use Rattle.ck_model.specs.History.{Past, CallsBy, begun, past_after, is_fault, IsStepOf, IsLegalAt, IsLegalWhole, IsRefusal, IsLegalNext, IsLegalFrom}
 use Rattle.ck_report.specs.Words.{call_words, reply_words}
 use Rattle.ck_report.specs.Transcript.{entry_head, answer_text, entry_line, entry_text, transcript_text}
-use Rattle.ck_report.specs.Printed.{IsProperEntry, TextsTell, printed, printed_entry}
+use Rattle.ck_report.specs.Printed.{IsProperEntry, IsProperIn, AreProper, TextsTell, printed, printed_entry}
 use Rattle.ck_report.proofs.Splitting.{Ends, IsDigit, number_first}
 use Rattle.ck_report.proofs.Forms.{lists, asks_checkpoints, Answers, plain-answers, step-answers}
 use Rattle.ck_report.proofs.Replies.{no_digit_32, no_digit_46, number_before, replies_tell}
@@ -103,6 +102,10 @@ line_tells calls e f a b r s is are h =
     let reply = replies_tell e.reply f.reply r s (asks_checkpoints a.call) is.reply are.reply a.answers again answer in
     (λ i. record { actor = head.0.actor i; seq = head.0.seq i; at = head.0.at i; given = head.0.given i; reply = reply.0 i }, reply.1)
 
+-- an entry that answers a call is proper
+proper : (calls : CallsBy) (entry : Entry) (a : IsAnswered calls entry) → IsProperIn calls entry → IsProperEntry entry
+proper calls entry a is = subst (λ found. IfSome found (λ call. IsProperEntry entry)) a.is is
+
 text_is : (calls : CallsBy) (entry : Entry) (a : IsAnswered calls entry) → entry_text calls entry ≡ entry_line entry a.call
 text_is calls entry a = ap (λ found. option_map_or (entry_line entry) found []) a.is
 
@@ -117,7 +120,7 @@ no_line calls entry a r h =
     (h ∙ ap (λ line. line ++ r) (text_is calls entry a) ∙ append_assoc (entry_head entry) (answer_text a.call entry.reply) r ∙ ap (λ text. entry_head entry ++ text) (answer_is a.call entry.reply r))
 
 histories_tell : (calls : CallsBy) (texts other_texts : Texts) (past other : Past) (history again : List Entry) → IsLegalFrom texts calls past history → IsLegalFrom other_texts calls other again
-    → AllByRecursion IsProperEntry history → AllByRecursion IsProperEntry again → transcript_text calls history ≡ transcript_text calls again → printed history ≡ printed again
+    → AreProper calls history → AreProper calls again → transcript_text calls history ≡ transcript_text calls again → printed history ≡ printed again
 histories_tell calls texts other_texts past other [] [] legal legal_again is are h = refl
 histories_tell calls texts other_texts past other [] (f ∷ again) legal legal_again is are h =
     absurd (no_line calls f (next-answered other_texts calls other f legal_again.0) (transcript_text calls again) h)
@@ -127,7 +130,7 @@ histories_tell calls texts other_texts past other (e ∷ history) (f ∷ again) 
     let a = next-answered texts calls past e legal.0 in
     let b = next-answered other_texts calls other f legal_again.0 in
     let rest : List Entry → List ℕ = λ entries. transcript_text calls entries in
-    let first = line_tells calls e f a b (rest history) (rest again) is.0 are.0
+    let first = line_tells calls e f a b (rest history) (rest again) (proper calls e a is.0) (proper calls f b are.0)
     (ap (λ line. line ++ rest history) (sym (text_is calls e a)) ∙ h ∙ ap (λ line. line ++ rest again) (text_is calls f b)) in
     let below = histories_tell calls texts other_texts (past_after texts calls past e) (past_after other_texts calls other f) history again legal.1 legal_again.1 is.1 are.1 first.1 in
     (λ i. first.0 i ∷ below i)

@@ -1,5 +1,5 @@
 -- What the text of a history says of it, and that it says no less.
-use Rattle.std.specs.Prelude.{◌≡◌, ◌<◌, ◌^◌, ⊤, ℕ, List, length, map as list_map}
+use Rattle.std.specs.Prelude.{◌≡◌, ◌<◌, ◌^◌, ⊤, ℕ, List, IfSome, length, map as list_map}
 use Rattle.std.specs.List.{AllByRecursion}
 use Rattle.hex.specs.Hex.{IsBytes}
 use Rattle.ck_model.specs.declared.checkpoint.CkptLine.{CkptLine}
@@ -74,12 +74,19 @@ pub record IsProperEntry (entry : Entry) : Type 0 where
   pub given : IsNumber entry.given
   pub reply : IsProper entry.reply
 
+-- such an entry where it answers a call, so that the text has it
+abbrev pub IsProperIn : CallsBy → Entry → Type 0
+IsProperIn calls entry = IfSome (calls entry.actor entry.seq) (λ call. IsProperEntry entry)
+
+abbrev pub AreProper : CallsBy → List Entry → Type 0
+AreProper calls history = AllByRecursion (IsProperIn calls) history
+
 -- Two legal histories of one script that have the same text are the same, but for what the text leaves out. Their worlds
 -- may be two, and the texts of their streams as well.
 abbrev pub TextsTell : Type 0
 TextsTell =
     (calls : CallsBy) (texts other_texts : Texts) (w other : World) (history again : List Entry) →
     IsLegal texts calls w history → IsLegal other_texts calls other again →
-    AllByRecursion IsProperEntry history → AllByRecursion IsProperEntry again →
+    AreProper calls history → AreProper calls again →
     transcript_text calls history ≡ transcript_text calls again →
     printed history ≡ printed again

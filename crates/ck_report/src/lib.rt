@@ -3,6 +3,7 @@
 
 mod date;
 mod finding;
+mod laws;
 mod list;
 mod put;
 mod standard_error;
@@ -12,6 +13,7 @@ mod story;
 mod tests;
 mod words;
 
+pub use laws::texts_tell;
 pub use list::listing;
 pub use standard_error::fault_line;
 pub use status::Status;

@@ -1,5 +1,6 @@
 ghost use Rattle.std.specs.Prelude.{◌≡◌, ◌++◌, OnOk};
 ghost use Rattle.ck_model.specs.Path.{joined, path_text};
+ghost use Rattle.hex.specs.Hex.{IsBytes};
 ghost use Rattle.ck_report.specs.Words.{spaced, path_words, number_words, bytes_words};
 
 use ck_model::{NameBytes, NoMemory, Path};
@@ -28,7 +29,8 @@ pub fn put_number(out: &mut Vec<u8>, number: u64) -> Result<(), NoMemory>
 }
 
 pub fn put_bytes(out: &mut Vec<u8>, bytes: &[u8]) -> Result<(), NoMemory>
-    ensures { OnOk result (out.new.items ≡ out.old.items ++ bytes_words bytes.now) }
+    ensures text { OnOk result (out.new.items ≡ out.old.items ++ bytes_words bytes.now) }
+    ensures bytes { IsBytes bytes.now }
 {
     put(out, b" x:")?;
     put_hex(out, bytes)

@@ -2,6 +2,7 @@ ghost use Rattle.std.specs.Prelude.{◌≡◌, ◌++◌, OnOk, IfOk};
 ghost use Rattle.ck_model.specs.History.{call_at};
 ghost use Rattle.ck_script.specs.Numbered.{calls_in, IsNumbered};
 ghost use Rattle.std.specs.Fmt.{decimal};
+ghost use Rattle.ck_report.specs.Printed.{IsNumber, IsProper, IsProperIn, AreProper};
 ghost use Rattle.ck_report.specs.Words.{number_words};
 ghost use Rattle.ck_report.specs.Transcript.{entry_head, answer_text, entry_text, transcript_text};
 
@@ -26,7 +27,11 @@ fn put_small_word(out: &mut Vec<u8>, number: u32) -> Result<(), NoMemory>
 }
 
 fn put_head(out: &mut Vec<u8>, entry: &Entry) -> Result<(), NoMemory>
-    ensures { OnOk result (out.new.items ≡ out.old.items ++ entry_head entry.now) }
+    ensures text { OnOk result (out.new.items ≡ out.old.items ++ entry_head entry.now) }
+    ensures actor { OnOk result (IsNumber entry.now.actor) }
+    ensures seq { OnOk result (IsNumber entry.now.seq) }
+    ensures at { OnOk result (IsNumber entry.now.at) }
+    ensures given { OnOk result (IsNumber entry.now.given) }
 {
     put_small(out, entry.actor)?;
     put(out, b".")?;
@@ -37,7 +42,8 @@ fn put_head(out: &mut Vec<u8>, entry: &Entry) -> Result<(), NoMemory>
 }
 
 fn put_answer(out: &mut Vec<u8>, call: &Call, reply: &Reply) -> Result<(), NoMemory>
-    ensures { OnOk result (out.new.items ≡ out.old.items ++ answer_text call.now reply.now) }
+    ensures text { OnOk result (out.new.items ≡ out.old.items ++ answer_text call.now reply.now) }
+    ensures proper { OnOk result (IsProper reply.now) }
 {
     put(out, b" ")?;
     put_call(out, call)?;
@@ -54,7 +60,8 @@ fn put_entry(
     places: &mut Places,
 ) -> Result<(), NoMemory>
     requires { IsNumbered lines.now }
-    ensures { OnOk result (out.new.items ≡ out.old.items ++ entry_text (call_at (calls_in lines.now)) entry.now) }
+    ensures text { OnOk result (out.new.items ≡ out.old.items ++ entry_text (call_at (calls_in lines.now)) entry.now) }
+    ensures proper { OnOk result (IsProperIn (call_at (calls_in lines.now)) entry.now) }
 {
     match find_call(lines, places, entry.actor, entry.seq) {
         Some(call) => {
@@ -65,9 +72,11 @@ fn put_entry(
     }
 }
 
-/// The text of a history: one line for each entry, in order.
+/// The text of a history: one line for each entry, in order. Its numbers, bytes and names are such
+/// that the text tells it (`texts_tell`).
 pub fn transcript(alloc: Global, history: &[Entry], script: &Script) -> Result<Vec<u8>, NoMemory>
-    ensures { IfOk result (λ text. text.items ≡ transcript_text (call_at (calls_in script.now.calls)) history.now) }
+    ensures text { IfOk result (λ text. text.items ≡ transcript_text (call_at (calls_in script.now.calls)) history.now) }
+    ensures proper { OnOk result (AreProper (call_at (calls_in script.now.calls)) history.now) }
 {
     let lines = script.calls.items();
     let mut places = Places::new();

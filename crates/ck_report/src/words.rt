@@ -2,7 +2,9 @@ ghost use Rattle.std.specs.Prelude.{◌≡◌, ◌++◌, length, OnOk};
 ghost use Rattle.std.specs.List.{flat_map};
 ghost use Rattle.ck_report.specs.Words.{call_words, reply_words, flag_words, child_words, state_word, keep_word, line_words, space_word, share_words, checkpoints_words, counts_words, stream_words, digest_in, spaced, path_words, number_words};
 ghost use Rattle.ck_model.specs.declared.reply.Reply.TheVariants as reply;
-ghost use Rattle.hex.specs.Hex.{encode_lower};
+ghost use Rattle.ck_report.specs.Printed.{IsProper, IsProperDirectory, IsProperLine, IsProperListing};
+ghost use Rattle.ck_model.specs.Name.{IsName};
+ghost use Rattle.hex.specs.Hex.{IsBytes, encode_lower};
 
 use crate::put::{put, put_bytes, put_number, put_path, put_word};
 use ck_model::{Call, Child, CkptLine, NameBytes, NoMemory, Path, Reply, SpaceOf, State};
@@ -142,14 +144,16 @@ pub fn put_call(out: &mut Vec<u8>, call: &Call) -> Result<(), NoMemory>
 }
 
 fn put_child(out: &mut Vec<u8>, child: &Child) -> Result<(), NoMemory>
-    ensures { OnOk result (out.new.items ≡ out.old.items ++ child_words child.now) }
+    ensures text { OnOk result (out.new.items ≡ out.old.items ++ child_words child.now) }
+    ensures name { IsName child.now.name }
 {
     put_word(out, child.name.bytes())?;
     if child.dir { put(out, b"/") } else { Ok(()) }
 }
 
 fn put_children(out: &mut Vec<u8>, children: &[Child]) -> Result<(), NoMemory>
-    ensures { OnOk result (out.new.items ≡ out.old.items ++ number_words (length children.now) ++ flat_map child_words children.now) }
+    ensures text { OnOk result (out.new.items ≡ out.old.items ++ number_words (length children.now) ++ flat_map child_words children.now) }
+    ensures proper { OnOk result (IsProperDirectory children.now) }
 {
     put_number(out, children.len() as u64)?;
     for child in children {
@@ -184,7 +188,8 @@ fn space_text(what: SpaceOf) -> &'static [u8]
 }
 
 fn put_line(out: &mut Vec<u8>, line: &CkptLine) -> Result<(), NoMemory>
-    ensures { OnOk result (out.new.items ≡ out.old.items ++ line_words line.now) }
+    ensures text { OnOk result (out.new.items ≡ out.old.items ++ line_words line.now) }
+    ensures proper { OnOk result (IsProperLine line.now) }
 {
     put_number(out, u64::from(line.id))?;
     put(out, b":")?;
@@ -198,7 +203,8 @@ fn put_line(out: &mut Vec<u8>, line: &CkptLine) -> Result<(), NoMemory>
 }
 
 fn put_lines(out: &mut Vec<u8>, lines: &[CkptLine]) -> Result<(), NoMemory>
-    ensures { OnOk result (out.new.items ≡ out.old.items ++ number_words (length lines.now) ++ flat_map line_words lines.now) }
+    ensures text { OnOk result (out.new.items ≡ out.old.items ++ number_words (length lines.now) ++ flat_map line_words lines.now) }
+    ensures proper { OnOk result (IsProperListing lines.now) }
 {
     put_number(out, lines.len() as u64)?;
     for line in lines {
@@ -276,7 +282,8 @@ fn put_digest(out: &mut Vec<u8>, stream: &[u8]) -> Result<(), NoMemory>
 }
 
 fn put_stream(out: &mut Vec<u8>, records: u64, stream: &[u8]) -> Result<(), NoMemory>
-    ensures { OnOk result (out.new.items ≡ out.old.items ++ stream_words records stream.now) }
+    ensures text { OnOk result (out.new.items ≡ out.old.items ++ stream_words records stream.now) }
+    ensures bytes { IsBytes stream.now }
 {
     put(out, b"Ok records")?;
     put_number(out, records)?;
@@ -287,7 +294,8 @@ fn put_stream(out: &mut Vec<u8>, records: u64, stream: &[u8]) -> Result<(), NoMe
 
 /// The words of a reply.
 pub fn put_reply(out: &mut Vec<u8>, reply: &Reply) -> Result<(), NoMemory>
-    ensures { OnOk result (out.new.items ≡ out.old.items ++ reply_words reply.now) }
+    ensures text { OnOk result (out.new.items ≡ out.old.items ++ reply_words reply.now) }
+    ensures proper { OnOk result (IsProper reply.now) }
 {
     match reply {
         Reply::Done => put(out, b"Ok"),

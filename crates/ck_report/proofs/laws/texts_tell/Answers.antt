@@ -1,0 +1,5 @@
+use Rattle.ck_report.proofs.Telling as telling
+use Rattle.ck_report.proofs.laws.texts_tell.Goals as goal
+
+pub returns : goal.returns
+returns c = telling.texts_tell
