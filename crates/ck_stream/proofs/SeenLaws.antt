@@ -1,6 +1,6 @@
 -- A stream whose records are counted is the one that is read, without them.
-use Rattle.std.proofs.Common.{◌≡◌, ℕ, suc, ◌-◌, true, false, cond, List, length, drop, None, Result, Ok, Err, refl, ap}
-use Rattle.std.specs.Prelude.{nat_eq}
+use Rattle.std.proofs.Common.{◌≡◌, ◌≤◌, ℕ, suc, ◌-◌, true, false, cond, List, length, drop, None, Result, Ok, Err, refl, sym, ap, subst}
+use Rattle.std.specs.Prelude.{nat_eq, IfOk}
 use Rattle.std.specs.Cmp.Lexicographic.{pointwise}
 use Rattle.sha2.specs.Sha256.{sha256}
 use Rattle.ck_stream.specs.declared.item.Item.{Item}
@@ -8,9 +8,12 @@ use Rattle.ck_stream.specs.declared.fault.StreamFault.{StreamFault}
 use Rattle.ck_stream.specs.declared.fault.StreamFault.TheVariants as fault
 use Rattle.ck_stream.specs.declared.tag.Header.{Header}
 use Rattle.ck_stream.specs.declared.tag.Header.TheVariants as header
+use Rattle.ck_stream.specs.declared.stream.Stream.{Stream}
 use Rattle.ck_stream.specs.declared.stream.Summary.{Summary}
-use Rattle.ck_stream.specs.Reading.{◌>>=◌, HasFault, located, header_at, items_at, end_at, is_full, made, signed, digest_in, stream_at}
-use Rattle.ck_stream.specs.Seen.{summary_of, seen, counted, seen_at}
+use Rattle.ck_stream.specs.Reading.{◌>>=◌, HasFault, Gives, located, header_at, items_at, end_at, is_full, made, signed, digest_in, stream_at}
+use Rattle.ck_stream.specs.Seen.{summary_of, TellsOf, seen, counted, seen_at}
+use Rattle.ck_stream.proofs.FieldLaws.{IsBytes}
+use Rattle.ck_stream.proofs.StreamLaws.{stream_takes}
 
 summary_made : (h : Header) (items : List Item) → summary_of (made h items) ≡ record { header = h; records = length items }
 summary_made (header.Full id) items = refl
@@ -51,3 +54,25 @@ counted_fault (fault.NotStream place) read given = ap counted given
 counted_fault (fault.Truncated total) read given = ap counted given
 counted_fault (fault.Digest kept found) read given = ap counted given
 counted_fault fault.NoMemory read given = tt
+
+-- ---- what an answer says
+
+pub is_exact : (bytes : List ℕ) (at : ℕ) (answer : Result (Summary × ℕ) StreamFault) → Gives (λ read. read) answer (seen_at bytes at) → Gives (λ read. read) answer (seen (stream_at bytes at))
+is_exact bytes at answer given =
+    subst (λ (read : Result (Summary × ℕ) StreamFault). Gives (λ x. x) answer read) (sym (seen_is bytes at)) given
+
+tells : (bytes : List ℕ) (at : ℕ) (there : Result (Stream × ℕ) StreamFault) (read : Summary × ℕ) → at ≤ length bytes → IsBytes bytes → stream_at bytes at ≡ there → seen there ≡ Ok read → TellsOf bytes at read
+tells bytes at (Ok x) read within fits is h =
+    let taken = stream_takes bytes at x within fits is in
+    let same : (summary_of x.0, x.1) ≡ read = cc in
+    subst (λ (read : Summary × ℕ). TellsOf bytes at read) same (record {
+      stream = x.0;
+      right = taken.right;
+      spelled = taken.stands_there;
+      told = refl;
+    })
+tells bytes at (Err f) read within fits is h = absurd cc
+
+pub tells_of : (bytes : List ℕ) (at : ℕ) (answer : Result (Summary × ℕ) StreamFault) → at ≤ length bytes → IsBytes bytes → Gives (λ read. read) answer (seen (stream_at bytes at)) → IfOk answer (λ read. TellsOf bytes at read)
+tells_of bytes at (Ok read) within fits e = tells bytes at (stream_at bytes at) read within fits refl e
+tells_of bytes at (Err why) within fits e = tt

@@ -1,5 +1,5 @@
 -- What is told of a stream whose records aren't kept: its header, and how many records it has.
-use Rattle.std.specs.Prelude.{ℕ, suc, ◌-◌, List, length, drop, None, Result, Ok}
+use Rattle.std.specs.Prelude.{◌≡◌, ℕ, suc, ◌-◌, List, length, drop, None, Result, Ok}
 use Rattle.sha2.specs.Sha256.{sha256}
 use Rattle.ck_stream.specs.declared.item.Item.{Item}
 use Rattle.ck_stream.specs.declared.fault.StreamFault.{StreamFault}
@@ -7,12 +7,21 @@ use Rattle.ck_stream.specs.declared.tag.Header.TheVariants as header
 use Rattle.ck_stream.specs.declared.stream.Stream.{Stream}
 use Rattle.ck_stream.specs.declared.stream.Stream.TheVariants as stream
 use Rattle.ck_stream.specs.declared.stream.Summary.{Summary}
+use Rattle.ck_stream.specs.Spelling.{text, StandsIn}
+use Rattle.ck_stream.specs.Right.{IsStream}
 use Rattle.ck_stream.specs.Reading.{◌>>=◌, located, header_at, items_at, end_at, is_full, signed, digest_in}
 
 abbrev pub summary_of : Stream → Summary
 summary_of (stream.Full full) = record { header = header.Full full.id; records = length full.items }
 summary_of (stream.Changed changed) =
     record { header = header.Changed changed.from changed.to; records = length changed.items }
+
+-- a right stream stands from this place on up to the one that is told, and this is told of it
+pub record TellsOf (bytes : List ℕ) (at : ℕ) (read : Summary × ℕ) : Type 0 where
+  pub stream : Stream
+  pub right : IsStream stream
+  pub spelled : StandsIn bytes at read.1 (text stream)
+  pub told : summary_of stream ≡ read.0
 
 -- what was read, without the records
 abbrev pub seen : {E : Type 0} → Result (Stream × ℕ) E → Result (Summary × ℕ) E

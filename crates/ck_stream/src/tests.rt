@@ -146,6 +146,17 @@ fn each_record_is_read_and_written(rt: HostRuntime) -> Result<(), Fail> {
     Ok(())
 }
 
+#[test]
+fn records_are_counted(rt: HostRuntime) -> Result<(), Fail> {
+    let alloc = rt.alloc();
+    let bytes = with_block(alloc, &CHANGES_HEAD, &CHANGES_TAIL)?;
+    let (summary, end) = verify_stream(alloc, &bytes, 0)?;
+    assert_eq!(rt; end, 4207);
+    assert!(rt; matches!(summary.header, Header::Changed(7, 9)));
+    assert_eq!(rt; summary.records, 6);
+    Ok(())
+}
+
 /// The full stream behind the first place of these bytes.
 fn full_in(alloc: Global, bytes: &[u8]) -> Option<Full>
     ensures { IfSome result IsFull }

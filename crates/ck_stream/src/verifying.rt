@@ -1,6 +1,9 @@
-ghost use Rattle.std.specs.Prelude.{◌≡◌, ◌≤◌, IfOk, None, length};
+ghost use Rattle.std.specs.Prelude.{◌≡◌, ◌≤◌, ℕ, IfOk, Ok, None, length};
+ghost use Rattle.ck_stream.specs.declared.stream.Stream.{Stream};
+ghost use Rattle.ck_stream.specs.Spelling.{text, StandsIn};
+ghost use Rattle.ck_stream.specs.Right.{IsStream};
 ghost use Rattle.ck_stream.specs.Reading.{Gives, items_at, stream_at};
-ghost use Rattle.ck_stream.specs.Seen.{seen, counted, seen_at};
+ghost use Rattle.ck_stream.specs.Seen.{summary_of, TellsOf, seen, counted, seen_at};
 
 use crate::header::is_full;
 use crate::reading::{byte_of, digest_of, end_in, fault_at, header_in};
@@ -64,8 +67,13 @@ pub fn verify_stream(
     at: usize,
 ) -> Result<(Summary, usize), StreamFault>
     requires { at ≤ length bytes.now }
-    // What reading the stream gives, without the records.
-    ensures { Gives (λ read. read) result (seen (stream_at bytes.now at)) }
+    // A right stream is spelled there, and this is told of it.
+    ensures stands { IfOk result (λ read. TellsOf bytes.now at read) }
+    // What is right and spelled there is told of, unless memory runs out.
+    ensures only { (s : Stream) (end : ℕ) → IsStream s → StandsIn bytes.now at end (text s)
+        → Gives (λ read. read) result (Ok (summary_of s, end)) }
+    // Which fault it is, and where: what reading the stream gives, without the records.
+    ensures exact { Gives (λ read. read) result (seen (stream_at bytes.now at)) }
 {
     summary_in(alloc, bytes, at)
 }

@@ -6,9 +6,9 @@ use Rattle.ck_image.proofs.Told.{is_seen, has_fault}
 use Rattle.ck_image.proofs.images.summary_of.Goals as goal
 
 pub returns-in-Ok : goal.returns-in-Ok
-returns-in-Ok c = is_seen c.args.bytes.now c.in-Ok.read c.in-Ok.ensures
+returns-in-Ok c = is_seen c.args.bytes.now c.in-Ok.read c.in-Ok.ensures.exact
 
 pub returns-in-Err : goal.returns-in-Err
 returns-in-Err c =
     subst (λ (why : Refusal). HasRefusal why (seen (stream_in c.args.bytes.now 0))) (sym c.refused.ensures)
-    (has_fault c.args.bytes.now c.in-Err.fault c.in-Err.ensures)
+    (has_fault c.args.bytes.now c.in-Err.fault c.in-Err.ensures.exact)
