@@ -17,7 +17,6 @@ use Rattle.ck_model.specs.Values.{Store}
 use Rattle.ck_chain.specs.Changes.{is_write}
 use Rattle.ck_push.specs.Growth.{one_if, write_count}
 use Rattle.ck_volume.specs.Allocating.{is_named, is_taken, is_busy, IsAllocated, IsAllocatedBut, KeepsBusy}
-use Rattle.ck_volume.specs.Changing.{written_by}
 use Rattle.ck_volume.specs.Placing.{with_places, places_of, AreDistinct, ArePlaced, AreHeld}
 use Rattle.ck_volume.specs.Writing.{AgreeBut}
 
@@ -177,15 +176,6 @@ places-with_places (Put key small ∷ done) places many = places-with_places don
 places-with_places (Del key ∷ done) places many = places-with_places done places (omega (arith, many))
 places-with_places (Write n i o ∷ done) [] many = absurd (omega (arith, many))
 places-with_places (Write n i o ∷ done) (p ∷ places) many = ap (λ xs. p ∷ xs) (places-with_places done places (omega (arith, many)))
-
--- as changes are made, whatever the stamp
-pub written-with_places : (done : List Change) (places : List ℕ) (stamp : ℕ) → length places ≡ write_count done → written_by (with_places done places) stamp ≡ places
-written-with_places [] [] stamp many = refl
-written-with_places [] (p ∷ places) stamp many = absurd (omega (arith, many))
-written-with_places (Put key small ∷ done) places stamp many = written-with_places done places stamp (omega (arith, many))
-written-with_places (Del key ∷ done) places stamp many = written-with_places done places stamp (omega (arith, many))
-written-with_places (Write n i o ∷ done) [] stamp many = absurd (omega (arith, many))
-written-with_places (Write n i o ∷ done) (p ∷ places) stamp many = ap (λ xs. p ∷ xs) (written-with_places done places stamp (omega (arith, many)))
 
 -- ---- so many of the changes have their places
 

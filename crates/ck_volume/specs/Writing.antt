@@ -1,11 +1,7 @@
--- What a write within the first block of a file puts and stores.
-use Rattle.std.specs.Prelude.{◌≡◌, ◌≢◌, ⊤, ℕ, ◌+◌, ◌-◌, ◌&&◌, List, [], ◌∷◌, ◌++◌, length, if◌then◌else◌, map as list_map, nat_le, nat_lt, slice_index}
+-- What writing into a block puts there, and how it fails.
+use Rattle.std.specs.Prelude.{◌≡◌, ◌≢◌, ⊤, ℕ, ◌+◌, ◌-◌, ◌&&◌, List, length, if◌then◌else◌, map as list_map, nat_le, nat_lt, slice_index}
 use Rattle.std.specs.List.{range_with_len}
 use Rattle.ck_disk.specs.Disk.{Meaning, Rose}
-use Rattle.ck_model.specs.declared.key.Key.TheVariants.{Node}
-use Rattle.ck_model.specs.declared.change.Change.{Change}
-use Rattle.ck_model.specs.declared.change.Change.TheVariants.{Put, Write}
-use Rattle.ck_model.specs.declared.held.Small.TheVariants.{File}
 use Rattle.ck_volume.specs.declared.fault.Fault.{Fault}
 use Rattle.ck_volume.specs.declared.fault.Fault.TheVariants.{ReadFault, WriteFault, NoMemory}
 use Rattle.ck_model.specs.Values.{Store}
@@ -14,10 +10,6 @@ use Rattle.ck_model.specs.Values.{Store}
 abbrev pub patched : List ℕ → ℕ → List ℕ → List ℕ
 patched old at bytes =
     list_map (λ place. if nat_le at place && nat_lt place (at + length bytes) then slice_index bytes (place - at) else slice_index old place) (range_with_len 0 4096)
-
--- the node where the file grows, and the file's first block
-abbrev pub write_items : ℕ → ℕ → ℕ → ℕ → List Change
-write_items node block size end = (if nat_lt size end then Put (Node node) (File end) ∷ [] else []) ++ Write node 0 block ∷ []
 
 -- but for this data block they hold the same
 abbrev pub AgreeBut : ℕ → Store → Store → Type 0

@@ -5,7 +5,7 @@ ghost use Rattle.ck_alloc.specs.Blocks.{IsFree, IsPartition, free_count};
 ghost use Rattle.ck_model.specs.Standing.{world_on};
 ghost use Rattle.ck_model.specs.World.{Mounts};
 ghost use Rattle.ck_push.specs.Growth.{write_count};
-ghost use Rattle.ck_tree.specs.Plan.{block_by, IsChanging};
+ghost use Rattle.ck_tree.specs.Plan.{block_by};
 ghost use Rattle.ck_volume.specs.declared.fault.Fault.TheVariants.{ReadFault, WriteFault};
 ghost use Rattle.ck_volume.specs.Allocating.{is_taken, IsAllocated, KeepsBusy};
 ghost use Rattle.ck_volume.specs.Device.{store_on};
@@ -116,7 +116,6 @@ pub fn store_all<M: Meta, D: Disk>(
 ) -> Result<(), Fault>
     requires ours { IsOurs (M.table meta.now) }
     requires allocated { IsAllocated (M.table meta.now) blocks.old }
-    requires changing { IsChanging call.now }
     requires free { write_count changes.old ≤ free_count blocks.old }
     requires blocks_are { area.blocks ≡ (M.table meta.now).blocks }
     requires area { area.base + area.blocks ≤ (D.means disk.old).size }
