@@ -6,8 +6,8 @@ use Rattle.ck_slots.specs.Order.{numbers_in, index_in}
 use Rattle.ck_slots.proofs.EntryLemmas.{number_in_range, held_there}
 use Rattle.ck_slots.proofs.entries.Entries.get.Goals as goal
 
-pub index-requires-in-Ok : goal.index-requires-in-Ok
-index-requires-in-Ok c =
+pub index-requires : goal.index-requires
+index-requires c =
     let s = c.args.self.now in
     let inside = number_in_range s.slots.items (numbers_in s.order) s.free.items s.sorted s.once (c.args.fileset, c.args.key.now) (index_in s.order c.in-Ok.place) c.number.result c.in-Ok.ensures.found c.number.ensures in
     omega arith
@@ -15,7 +15,7 @@ index-requires-in-Ok c =
 pub returns-in-Ok : goal.returns-in-Ok
 returns-in-Ok c =
     let s = c.args.self.now in
-    held_there s.slots.items (numbers_in s.order) s.free.items s.sorted s.once (c.args.fileset, c.args.key.now) (index_in s.order c.in-Ok.place) c.number.result c.in-Ok.ensures.found c.number.ensures c.index-in-Ok.result.now c.index-in-Ok.ensures
+    held_there s.slots.items (numbers_in s.order) s.free.items s.sorted s.once (c.args.fileset, c.args.key.now) (index_in s.order c.in-Ok.place) c.number.result c.in-Ok.ensures.found c.number.ensures c.index.result.now c.index.ensures
 
 pub returns-in-Err : goal.returns-in-Err
 returns-in-Err c =
