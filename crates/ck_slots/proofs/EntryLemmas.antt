@@ -1,6 +1,6 @@
 -- An edit of the slots and their order is the edit of the entries.
 use Rattle.std.proofs.Common.{◌≡◌, ℕ, ◌+◌, ◌<◌, true, List, [], ◌∷◌, ◌++◌, length, length-append, get_or, set, sym, ap, subst, ◌∙◌, arith, inl, inr, Some}
-use Rattle.std.proofs.lemmas.List.{get_or_default, length-set}
+use Rattle.std.proofs.lemmas.List.{length-set}
 use Rattle.std.specs.List.{insert, remove}
 use Rattle.std.specs.FinMap.{is_sorted}
 use Rattle.std.specs.FinMap as map

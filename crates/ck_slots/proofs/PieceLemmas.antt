@@ -1,5 +1,5 @@
 -- Numbers in pieces, after an edit of the pieces.
-use Rattle.std.proofs.Common.{◌≡◌, ℕ, zero, suc, ◌+◌, ◌*◌, ◌<◌, ◌≤◌, List, [], ◌∷◌, ◌++◌, take, drop, length, get_or, set, append_assoc, append-nil, refl, sym, ap, subst, ◌∙◌, length-append, arith, inl, inr}
+use Rattle.std.proofs.Common.{◌≡◌, ℕ, zero, suc, ◌+◌, ◌*◌, ◌<◌, ◌≤◌, List, [], ◌∷◌, ◌++◌, take, length, get_or, set, append_assoc, append-nil, refl, sym, ap, subst, ◌∙◌, length-append, arith, inl, inr}
 use Rattle.std.proofs.lemmas.List.{get_or_append_left, get_or-append-add, get_or_default}
 use Rattle.std.proofs.lemmas.List.Edits.{length-remove}
 use Rattle.std.proofs.lemmas.Bool.{cases_lt}
@@ -155,8 +155,8 @@ joined_is pieces rest at next first second joined follows there rest_is first_is
     let within : at < length rest = omega (arith, follows, there, ap length rest_is, length-remove pieces next there) in
     ap (λ r. set r at joined) rest_is
     ∙ ap (λ p. set (remove pieces next) at p) (is
-      ∙ ap (λ p. p ++ second) (first_is ∙ get_or_default rest at first [] within ∙ ap (λ r. piece_at r at) rest_is ∙ before_removed pieces at next (omega arith) there)
-      ∙ ap (λ p. piece_at pieces at ++ p) (second_is ∙ get_or_default pieces next second [] there))
+    ∙ ap (λ p. p ++ second) (first_is ∙ get_or_default rest at first [] within ∙ ap (λ r. piece_at r at) rest_is ∙ before_removed pieces at next (omega arith) there)
+    ∙ ap (λ p. piece_at pieces at ++ p) (second_is ∙ get_or_default pieces next second [] there))
 
 pub concat-next : (pieces : List (List ℕ)) (piece next : ℕ) → next ≡ suc piece → piece < length pieces → concat (take next pieces) ≡ concat (take piece pieces) ++ piece_at pieces piece
 concat-next [] piece next is within = absurd (omega arith)

@@ -3,8 +3,8 @@ ghost use Rattle.std.specs.Prelude.{IsTrue, IsFalse, IfOk, slice_index};
 ghost use Rattle.std.specs.List.{insert, remove};
 ghost use Rattle.ck_slots.specs.Pieces.{offset, piece_at, IsPlace, IsTaken, AreFilled};
 
-use ck_model::NoMemory;
 use crate::piece::Piece;
+use ck_model::NoMemory;
 use std::alloc::Global;
 
 /// A place in an order: before the number that stands there, or at the end of a piece.

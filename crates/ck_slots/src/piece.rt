@@ -85,7 +85,10 @@ impl Piece {
     {
         let half = self.numbers.len() / 2;
         upper.numbers.clear();
-        upper.numbers.extend_from_slice(&self.numbers[half..]).unwrap();
+        upper
+            .numbers
+            .extend_from_slice(&self.numbers[half..])
+            .unwrap();
         self.numbers.truncate(half);
     }
 

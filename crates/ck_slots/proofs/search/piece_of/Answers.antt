@@ -3,7 +3,7 @@ use Rattle.std.proofs.lemmas.List.{get_or_default}
 use Rattle.ck_slots.specs.Arranged.{arranged}
 use Rattle.ck_slots.specs.Cut.{front, stands_before}
 use Rattle.ck_slots.specs.Order.{numbers_in}
-use Rattle.ck_slots.specs.Pieces.{offset, piece_at}
+use Rattle.ck_slots.specs.Pieces.{offset}
 use Rattle.ck_slots.proofs.CutLemmas.{last_inside, last_before, last_behind}
 use Rattle.ck_slots.proofs.search.piece_of.Goals as goal
 

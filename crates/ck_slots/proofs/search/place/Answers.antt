@@ -1,12 +1,10 @@
-use Rattle.std.proofs.Common.{◌≡◌, ℕ, ◌<◌, ◌+◌, [], true, length, get_or, sym, ap, subst, ◌∙◌, inl, inr, arith}
+use Rattle.std.proofs.Common.{◌≡◌, ℕ, ◌<◌, ◌+◌, [], true, length, get_or, sym, ap, subst, ◌∙◌}
 use Rattle.std.proofs.lemmas.List.{get_or_default}
-use Rattle.std.proofs.lemmas.Bool.{cases_lt}
 use Rattle.std.specs.FinMap.{is_sorted}
 use Rattle.ck_model.specs.Key.{entry_cmp}
 use Rattle.ck_slots.specs.Arranged.{arranged}
 use Rattle.ck_slots.specs.Cut.{front, stands_before}
-use Rattle.ck_slots.specs.Order.{numbers_in}
-use Rattle.ck_slots.specs.Pieces.{offset, piece_at}
+use Rattle.ck_slots.specs.Pieces.{offset}
 use Rattle.ck_slots.proofs.CutLemmas.{front_pieces, front_end, all_behind, sorted_piece, inside_piece}
 use Rattle.ck_slots.proofs.search.place.Goals as goal
 

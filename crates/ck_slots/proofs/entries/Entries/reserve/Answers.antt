@@ -2,7 +2,6 @@ use Rattle.std.proofs.Common.{length, arith, ap, sym, subst, ◌∙◌}
 use Rattle.std.specs.FinMap.{is_sorted}
 use Rattle.ck_model.specs.Key.{entry_cmp}
 use Rattle.ck_slots.specs.Arranged.{arranged, entries_of, StandOnce}
-use Rattle.ck_slots.specs.Order.{numbers_in}
 use Rattle.ck_slots.proofs.entries.Entries.reserve.Goals as goal
 
 pub reserve-requires : goal.reserve-requires

@@ -1,7 +1,7 @@
-use Rattle.std.proofs.Common.{◌≡◌, ◌<◌, suc, ◌+◌, [], length, get_or, refl, sym, ap, ◌∙◌, arith}
+use Rattle.std.proofs.Common.{◌<◌, [], length, get_or, sym, ap, ◌∙◌, arith}
 use Rattle.std.specs.List.{concat}
 use Rattle.std.proofs.lemmas.List.{get_or_default}
-use Rattle.ck_slots.specs.Pieces.{offset, piece_at}
+use Rattle.ck_slots.specs.Pieces.{offset}
 use Rattle.ck_slots.proofs.PieceLemmas.{number_at, removed_with}
 use Rattle.ck_slots.proofs.order.Order.remove_piece.Goals as goal
 

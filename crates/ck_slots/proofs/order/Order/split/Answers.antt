@@ -1,4 +1,4 @@
-use Rattle.std.proofs.Common.{◌≡◌, ◌<◌, ◌+◌, suc, [], ◌++◌, length, length-append, set, is_ok, cond, true, vec_len, vec_capacity, sym, ap, subst, ◌∙◌, arith}
+use Rattle.std.proofs.Common.{◌≡◌, ◌<◌, ◌+◌, [], ◌++◌, length, length-append, set, is_ok, cond, true, vec_len, vec_capacity, sym, ap, subst, ◌∙◌, arith}
 use Rattle.std.specs.List.{concat, insert}
 use Rattle.std.proofs.lemmas.List.{get_or_default}
 use Rattle.ck_slots.specs.Pieces.{piece_at, AreFilled}

@@ -1,4 +1,4 @@
-use Rattle.std.proofs.Common.{◌+◌, suc, refl, arith}
+use Rattle.std.proofs.Common.{◌+◌, arith}
 use Rattle.ck_slots.proofs.PieceLemmas.{offset-next}
 use Rattle.ck_slots.proofs.order.Order.with_room.Goals as goal
 
