@@ -1,6 +1,6 @@
 -- An edit of the slots and their order is the edit of the entries.
 use Rattle.std.proofs.Common.{◌≡◌, ℕ, ◌+◌, ◌<◌, true, List, [], ◌∷◌, ◌++◌, length, length-append, get_or, set, sym, ap, subst, ◌∙◌, arith, inl, inr, Some}
-use Rattle.std.proofs.lemmas.List.{get_or_default, length-set}
+use Rattle.std.proofs.lemmas.List.{length-set}
 use Rattle.std.specs.List.{insert, remove}
 use Rattle.std.specs.FinMap.{is_sorted}
 use Rattle.std.specs.FinMap as map
@@ -16,12 +16,12 @@ use Rattle.ck_slots.proofs.OnceLemmas.{in_range, never_twice, free_is_apart, fre
 
 module _ (slots : List Slot) (order free : List ℕ) (sorted : is_sorted entry_cmp (arranged slots order) ≡ true) (once : StandOnce (length slots) order free) where
   -- the slot that a search came to, as it is read
-  module _ (key : ℕ × Key) (at number : ℕ) (found : IsFoundAt entry_cmp key (arranged slots order) at) (number_is : number ≡ get_or order at number) where
+  module _ (key : ℕ × Key) (at number : ℕ) (found : IsFoundAt entry_cmp key (arranged slots order) at) (number_is : number ≡ get_or order at 0) where
     within : at < length order
     within = omega (arith, found.within, length-arranged slots order)
 
     number_at : number ≡ get_or order at 0
-    number_at = number_is ∙ get_or_default order at number 0 within
+    number_at = number_is
 
     pub number_in_range : number < length slots
     number_in_range = subst (λ n. n < length slots) (sym number_at) (in_range (length slots) order free once at within)
@@ -47,10 +47,10 @@ module _ (slots : List Slot) (order free : List ℕ) (sorted : is_sorted entry_c
       subst (λ es. Edits entry_cmp es (map.remove (entries_of slots order) key)) (sym (arranged-remove slots order at))
       (unset_found entry_cmp_total entry_cmp_exact key (arranged slots order) at (entry_of no_slot) found sorted)
 
-  pub once_taken_out : (key : ℕ × Key) (at number : ℕ) → IsFoundAt entry_cmp key (arranged slots order) at → number ≡ get_or order at number → StandOnce (length slots) (remove order at) (free ++ number ∷ [])
+  pub once_taken_out : (key : ℕ × Key) (at number : ℕ) → IsFoundAt entry_cmp key (arranged slots order) at → number ≡ get_or order at 0 → StandOnce (length slots) (remove order at) (free ++ number ∷ [])
   once_taken_out key at number found is =
       let inside : at < length order = omega (arith, found.within, length-arranged slots order) in
-      subst (λ n. StandOnce (length slots) (remove order at) (free ++ n ∷ [])) (sym (is ∙ get_or_default order at number 0 inside)) (once_freed (length slots) order free at inside once)
+      subst (λ n. StandOnce (length slots) (remove order at) (free ++ n ∷ [])) (sym is) (once_freed (length slots) order free at inside once)
 
   module _ (new_slots : List Slot) (new_free : List ℕ) (number at : ℕ) (slot : Slot) (stored : IsStored slots free new_slots new_free number slot) where
     kept : arranged new_slots order ≡ arranged slots order

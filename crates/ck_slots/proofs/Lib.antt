@@ -1,4 +1,6 @@
+pub mod PieceLemmas
 pub mod Cutting
+pub mod CutLemmas
 pub mod ArrangedLemmas
 pub mod FollowingLemmas
 pub mod OnceLemmas

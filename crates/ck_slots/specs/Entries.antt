@@ -6,14 +6,15 @@ use Rattle.ck_model.specs.declared.held.Held.{Held}
 use Rattle.ck_model.specs.Table.{Entries}
 use Rattle.ck_slots.specs.declared.entries.Entries.{Entries as Arrangement}
 use Rattle.ck_slots.specs.Arranged.{arranged, entries_of}
+use Rattle.ck_slots.specs.Order.{numbers_in}
 use Rattle.ck_slots.specs.Following.{keys_behind}
 
 -- as a list in their order
 abbrev pub listed_in : Arrangement → List ((ℕ × Key) × Held)
-listed_in e = arranged e.slots.items e.order.items
+listed_in e = arranged e.slots.items (numbers_in e.order)
 
 abbrev pub entries_in : Arrangement → Entries
-entries_in e = entries_of e.slots.items e.order.items
+entries_in e = entries_of e.slots.items (numbers_in e.order)
 
 -- the keys after this one at which a fileset holds something
 abbrev pub next_keys : Arrangement → ℕ → Option Key → List Key

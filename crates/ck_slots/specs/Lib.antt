@@ -1,4 +1,6 @@
 pub mod Arranged
+pub mod Pieces
+pub mod Order
 pub mod Cut
 pub mod Entries
 pub mod Following

@@ -7,7 +7,10 @@ ghost use Rattle.std.specs.FinMap as map;
 ghost use Rattle.ck_model.specs.Key.{entry_cmp};
 ghost use Rattle.ck_model.specs.Ordered.{IsFoundAt, IsGapAt};
 ghost use Rattle.ck_slots.specs.Arranged.{arranged, StandOnce, IsStored};
+ghost use Rattle.ck_slots.specs.Order.{numbers_in, index_in};
+ghost use Rattle.ck_slots.specs.Pieces.{IsPlace, IsTaken};
 
+use crate::order::{Order, Place};
 use crate::search::{next_key, search};
 use crate::slot::Slot;
 use ck_model::{Held, Key, NoMemory};
@@ -18,16 +21,16 @@ use std::alloc::Global;
 #[derive(Drop)]
 pub struct Entries {
     pub slots: Vec<Slot>,
-    pub order: Vec<u32>,
+    pub order: Order,
     pub free: Vec<u32>,
     pub limit: u32,
-    ghost sorted: { is_sorted entry_cmp (arranged slots.items order.items) ≡ true },
-    ghost once: { StandOnce (length slots.items) order.items free.items },
-    ghost whole: { vec_len order + vec_len free ≡ vec_len slots },
+    ghost sorted: { is_sorted entry_cmp (arranged slots.items (numbers_in order)) ≡ true },
+    ghost once: { StandOnce (length slots.items) (numbers_in order) free.items },
+    ghost whole: { length (numbers_in order) + vec_len free ≡ vec_len slots },
     ghost fits: { vec_len slots ≤ limit },
     ghost small: { limit ≤ 262144 },
+    ghost order_limit: { order.limit ≡ limit },
     ghost slots_room: { limit ≤ vec_capacity slots },
-    ghost order_room: { limit ≤ vec_capacity order },
     ghost free_room: { limit ≤ vec_capacity free },
 }
 
@@ -72,7 +75,7 @@ impl Entries {
     {
         Ok(Entries {
             slots: Vec::with_capacity(alloc, limit as usize)?,
-            order: Vec::with_capacity(alloc, limit as usize)?,
+            order: Order::new(alloc, limit)?,
             free: Vec::with_capacity(alloc, limit as usize)?,
             limit,
         })
@@ -81,7 +84,7 @@ impl Entries {
     pub fn len(&self) -> usize
         ensures { result ≡ map.len (entries_in self.now) }
     {
-        self.order.len()
+        self.slots.len() - self.free.len()
     }
 
     /// The entry at this place in the order of filesets and keys.
@@ -90,13 +93,38 @@ impl Entries {
         ensures { slice_get (map.entries (entries_in self.now)) at
             ≡ Some ((result.0, result.1), result.2) }
     {
-        let slot = &self.slots[self.order[at] as usize];
+        let place = self.order.locate(at);
+        let slot = &self.slots[self.order.number(place) as usize];
         (slot.fileset, slot.key, slot.held)
     }
 
-    fn find(&self, fileset: u32, key: &Key) -> Result<usize, usize>
-        ensures found { IfOk result (IsFoundAt entry_cmp (fileset, key.now) (listed_in self.now)) }
-        ensures absent { IfErr result (IsGapAt entry_cmp (fileset, key.now) (listed_in self.now)) }
+    /// The numbers of the slots in one list, in the order of filesets and keys.
+    pub fn listed(&self, alloc: Global) -> Result<Vec<u32>, NoMemory>
+        ensures { IfOk result (λ listed. listed.items ≡ numbers_in self.now.order) }
+    {
+        self.order.flat(alloc)
+    }
+
+    /// The entry at this place in that list.
+    pub fn listed_at(&self, listed: &[u32], at: usize) -> (u32, Key, Held)
+        requires listed { listed.now ≡ numbers_in self.now.order }
+        requires within { at < map.len (entries_in self.now) }
+        ensures { slice_get (map.entries (entries_in self.now)) at
+            ≡ Some ((result.0, result.1), result.2) }
+    {
+        let slot = &self.slots[listed[at] as usize];
+        (slot.fileset, slot.key, slot.held)
+    }
+
+    fn find(&self, fileset: u32, key: &Key) -> Result<Place, Place>
+        ensures taken { IfOk result (λ place. IsTaken self.now.order.pieces.items place) }
+        ensures found { IfOk result
+            (λ place. IsFoundAt entry_cmp (fileset, key.now) (listed_in self.now)
+            (index_in self.now.order place)) }
+        ensures place { IfErr result (λ place. IsPlace self.now.order.pieces.items place) }
+        ensures absent { IfErr result
+            (λ place. IsGapAt entry_cmp (fileset, key.now) (listed_in self.now)
+            (index_in self.now.order place)) }
     {
         search(&self.slots, &self.order, fileset, key)
     }
@@ -105,7 +133,7 @@ impl Entries {
         ensures { result ≡ map.get (entries_in self.now) (fileset, key.now) }
     {
         match self.find(fileset, key) {
-            Ok(at) => Some(self.slots[self.order[at] as usize].held),
+            Ok(place) => Some(self.slots[self.order.number(place) as usize].held),
             Err(_) => None,
         }
     }
@@ -120,15 +148,48 @@ impl Entries {
         next_key(&self.slots, &self.order, fileset, after)
     }
 
-    fn add(&mut self, at: usize, slot: Slot)
-        requires gap { IsGapAt entry_cmp (slot.fileset, slot.key) (listed_in self.old) at }
-        requires room { vec_len self.old.order < self.old.limit }
+    fn add(&mut self, place: Place, slot: Slot)
+        requires place { IsPlace self.old.order.pieces.items place }
+        requires spare { 0 < vec_len self.old.order.spare }
+        requires gap { IsGapAt entry_cmp (slot.fileset, slot.key) (listed_in self.old)
+            (index_in self.old.order place) }
+        requires room { length (numbers_in self.old.order) < self.old.limit }
         ensures entries { entries_in self.new
             ≡ map.insert (entries_in self.old) (slot.fileset, slot.key) slot.held }
         ensures limit { self.new.limit ≡ self.old.limit }
     {
         let number = store(&mut self.slots, &mut self.free, slot);
-        self.order.insert(at, number).unwrap();
+        self.order.insert(place, number);
+    }
+
+    // Sees to it that a number can be inserted. It comes before the search, since it moves places.
+    fn reserve(&mut self)
+        ensures spare { 0 < vec_len self.new.order.spare }
+        ensures entries { entries_in self.new ≡ entries_in self.old }
+        ensures limit { self.new.limit ≡ self.old.limit }
+    {
+        self.order.reserve();
+    }
+
+    fn put_reserved(&mut self, fileset: u32, key: &Key, held: Held)
+        requires spare { 0 < vec_len self.old.order.spare }
+        requires room { IsSome (map.get (entries_in self.old) (fileset, key.now))
+            ⊎ (map.len (entries_in self.old) < self.old.limit) }
+        ensures entries { entries_in self.new
+            ≡ map.insert (entries_in self.old) (fileset, key.now) held }
+        ensures limit { self.new.limit ≡ self.old.limit }
+    {
+        match self.find(fileset, key) {
+            Ok(place) => self.slots[self.order.number(place) as usize].held = held,
+            Err(place) => self.add(
+                place,
+                Slot {
+                    fileset,
+                    key: *key,
+                    held,
+                },
+            ),
+        }
     }
 
     /// Sets what a fileset holds at a key.
@@ -139,17 +200,8 @@ impl Entries {
             ≡ map.insert (entries_in self.old) (fileset, key.now) held }
         ensures limit { self.new.limit ≡ self.old.limit }
     {
-        match self.find(fileset, key) {
-            Ok(at) => self.slots[self.order[at] as usize].held = held,
-            Err(at) => self.add(
-                at,
-                Slot {
-                    fileset,
-                    key: *key,
-                    held,
-                },
-            ),
-        }
+        self.reserve();
+        self.put_reserved(fileset, key, held);
     }
 
     /// Takes away what a fileset holds at a key.
@@ -158,8 +210,8 @@ impl Entries {
             ≡ map.remove (entries_in self.old) (fileset, key.now) }
         ensures limit { self.new.limit ≡ self.old.limit }
     {
-        if let Ok(at) = self.find(fileset, key) {
-            let number = self.order.remove(at);
+        if let Ok(place) = self.find(fileset, key) {
+            let number = self.order.remove(place);
             self.free.push_reserved(number);
         }
     }

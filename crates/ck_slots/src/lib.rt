@@ -6,6 +6,8 @@ mod building;
 mod entries;
 mod filesets;
 mod opening;
+mod order;
+mod piece;
 mod search;
 mod slot;
 mod table;

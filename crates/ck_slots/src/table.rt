@@ -16,6 +16,7 @@ ghost use Rattle.ck_slots.specs.Building.{AreRecords};
 ghost use Rattle.ck_slots.specs.Committed.{Commits, IsCommitFault};
 ghost use Rattle.ck_slots.specs.Formatted.{StandsForEmpty};
 ghost use Rattle.ck_slots.specs.Opened.{IsBuilt, IsOpened, IsOpenFault};
+ghost use Rattle.ck_slots.specs.Order.{numbers_in};
 ghost use Rattle.ck_slots.specs.Lawful.{table_of, IsTable-prop};
 ghost use Rattle.ck_slots.specs.Written.{slots_of};
 
@@ -173,9 +174,10 @@ impl Slots {
         ensures { IfOk result (λ found. found.items ≡ extents_of (table_in self.now)) }
     {
         let count = self.entries.len();
+        let listed = self.entries.listed(alloc)?;
         let mut found = Vec::with_capacity(alloc, count)?;
         for at in 0..count {
-            let entry = self.entries.at(at);
+            let entry = self.entries.listed_at(&listed, at);
             push_named(&mut found, &entry.2);
         }
         Ok(found)
@@ -206,6 +208,23 @@ impl Slots {
             ≡ Some ((result.0, result.1), result.2) }
     {
         self.entries.at(at as usize)
+    }
+
+    /// The numbers of the slots of the entries in one list.
+    pub(crate) fn listed(&self, alloc: Global) -> Result<Vec<u32>, NoMemory>
+        ensures { IfOk result (λ listed. listed.items ≡ numbers_in self.now.entries.order) }
+    {
+        self.entries.listed(alloc)
+    }
+
+    /// The entry at this place in that list.
+    pub(crate) fn listed_at(&self, listed: &[u32], at: u32) -> (u32, Key, Held)
+        requires listed { listed.now ≡ numbers_in self.now.entries.order }
+        requires within { at < map.len (table_in self.now).entries }
+        ensures { slice_get (map.entries (table_in self.now).entries) at
+            ≡ Some ((result.0, result.1), result.2) }
+    {
+        self.entries.listed_at(listed, at as usize)
     }
 
     pub fn fileset_count(&self) -> u32

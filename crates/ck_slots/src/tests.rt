@@ -128,6 +128,45 @@ fn what_is_deleted_leaves_room(rt: HostRuntime) -> Result<(), Fail> {
     Ok(())
 }
 
+// 7 and 2001 have no common factor, so these are the numbers 1 to 2000.
+fn put_many(slots: &mut Slots) -> bool {
+    for at in 1..2001 {
+        if !put_file(slots, at * 7 % 2001, 1) {
+            return false;
+        }
+    }
+    true
+}
+
+fn delete_odd(slots: &mut Slots) {
+    for half in 0..1000 {
+        slots.del(0, &Key::Node(2 * half + 1));
+    }
+}
+
+fn are_even(slots: &Slots) -> bool {
+    let mut key = slots.next(0, None);
+    for half in 0..1001 {
+        if key != Some(Key::Node(2 * half)) {
+            return false;
+        }
+        key = slots.next(0, key.as_ref());
+    }
+    key.is_none()
+}
+
+#[test]
+fn each_second_of_many_stays(rt: HostRuntime) -> Result<(), Fail> {
+    let mut slots = new_table(rt.alloc(), 1, 2048)?;
+    assert!(rt; put_many(&mut slots));
+    assert_eq!(rt; slots.entry_count(), 2001);
+    delete_odd(&mut slots);
+    assert!(rt; are_even(&slots));
+    assert!(rt; slots.entry_count() == 1001);
+    assert_eq!(rt; slots.entry_at(1000).1, Key::Node(2000));
+    Ok(())
+}
+
 fn put_checkpoint(slots: &mut Slots, id: u32, name: &NameBytes) -> bool
     requires some { 1 ≤ id }
     requires name { IsCheckpointName name.now }

@@ -1,40 +1,44 @@
-use Rattle.std.proofs.Common.{◌≡◌, ◌<◌, ◌+◌, ◌-◌, ◌/◌, true, false, length, get_or, T, sym, ap, subst, ◌∙◌, arith}
+use Rattle.std.proofs.Common.{◌≡◌, ℕ, ◌<◌, ◌+◌, [], true, length, get_or, sym, ap, subst, ◌∙◌}
+use Rattle.std.proofs.lemmas.List.{get_or_default}
+use Rattle.std.specs.FinMap.{is_sorted}
 use Rattle.ck_model.specs.Key.{entry_cmp}
-use Rattle.ck_slots.specs.Arranged.{arranged, entry_of, no_slot}
-use Rattle.ck_slots.specs.Cut.{stands_before}
-use Rattle.ck_slots.proofs.ArrangedLemmas.{length-arranged, get_or-arranged}
-use Rattle.ck_slots.proofs.Cutting.{front_above, front_below, front_le, cut_falls}
+use Rattle.ck_slots.specs.Arranged.{arranged}
+use Rattle.ck_slots.specs.Cut.{front, stands_before}
+use Rattle.ck_slots.specs.Pieces.{offset}
+use Rattle.ck_slots.proofs.CutLemmas.{front_pieces, front_end, all_behind, sorted_piece, inside_piece}
 use Rattle.ck_slots.proofs.search.place.Goals as goal
 
-pub loop-low-init : goal.loop-low-init
-loop-low-init c =
-    let es = arranged c.args.slots.now c.args.order.now in
-    let few = front_le (stands_before c.args.cut.now) es in
-    let long = length-arranged c.args.slots.now c.args.order.now in
-    record { above = omega arith; below = omega (arith, few, long); within = omega arith }
+pub count_before-within-requires-clause-sorted : goal.count_before-within-requires-clause-sorted
+count_before-within-requires-clause-sorted c =
+    let ps = c.args.order.now.pieces.items in
+    let piece = c.piece_of-piece.result in
+    let read = c.as_slice.ensures ∙ c.index.ensures ∙ get_or_default ps piece c.index.result.now [] c.piece_of-piece.ensures.there in
+    subst (λ p. is_sorted entry_cmp (arranged c.args.slots.now p) ≡ true) (sym read) (sorted_piece c.args.slots.now ps piece c.piece_of-piece.ensures.there c.requires.sorted)
 
-pub loop-low-preserved-then-is_before : goal.loop-low-preserved-then-is_before
-loop-low-preserved-then-is_before c =
-    let slots = c.args.slots.now in
-    let order = c.args.order.now in
-    let middle = c.loop-low.low + (c.loop-low.high - c.loop-low.low) / 2 in
-    let within : middle < length order = omega arith in
-    let is = get_or-arranged slots order middle (entry_of no_slot) c.index-slots-order.result within (c.requires.within middle within) c.index-slots-order.is in
-    let passes : stands_before c.args.cut.now (get_or (arranged slots order) middle (entry_of no_slot)).0 ≡ true =
-    ap (λ e. stands_before c.args.cut.now e.0) is ∙ sym c.is_before.ensures ∙ c.if-is_before.true in
-    let inside : middle < length (arranged slots order) = omega (arith, length-arranged slots order) in
-    let above = front_above entry_cmp (stands_before c.args.cut.now) (cut_falls c.args.cut.now) (arranged slots order) middle (entry_of no_slot) (subst T (sym c.requires.sorted) tt) inside passes in
-    record { above = omega (arith, above); below = c.loop-low.invariant.below; within = c.loop-low.invariant.within }
+pub count_before-within-requires-clause-within : goal.count_before-within-requires-clause-within
+count_before-within-requires-clause-within c =
+    let ps = c.args.order.now.pieces.items in
+    let piece = c.piece_of-piece.result in
+    let read = c.as_slice.ensures ∙ c.index.ensures ∙ get_or_default ps piece c.index.result.now [] c.piece_of-piece.ensures.there in
+    subst (λ p. (k : ℕ) → k < length p → get_or p k 0 < length c.args.slots.now) (sym read) (inside_piece c.args.slots.now ps c.requires.within piece c.piece_of-piece.ensures.there)
 
-pub loop-low-preserved : goal.loop-low-preserved
-loop-low-preserved c =
+pub returns-clause-front : goal.returns-clause-front
+returns-clause-front c =
     let slots = c.args.slots.now in
-    let order = c.args.order.now in
-    let middle = c.loop-low.low + (c.loop-low.high - c.loop-low.low) / 2 in
-    let within : middle < length order = omega arith in
-    let is = get_or-arranged slots order middle (entry_of no_slot) c.index-slots-order.result within (c.requires.within middle within) c.index-slots-order.is in
-    let fails : stands_before c.args.cut.now (get_or (arranged slots order) middle (entry_of no_slot)).0 ≡ false =
-    ap (λ e. stands_before c.args.cut.now e.0) is ∙ sym c.is_before.ensures ∙ c.if-is_before.false in
-    let inside : middle < length (arranged slots order) = omega (arith, length-arranged slots order) in
-    let below = front_below (stands_before c.args.cut.now) (arranged slots order) middle (entry_of no_slot) inside fails in
-    record { above = c.loop-low.invariant.above; below = below; within = omega arith }
+    let ps = c.args.order.now.pieces.items in
+    let piece = c.piece_of-piece.result in
+    let test = stands_before c.args.cut.now in
+    let read = c.as_slice.ensures ∙ c.index.ensures ∙ get_or_default ps piece c.index.result.now [] c.piece_of-piece.ensures.there in
+    ap (λ n. offset ps piece + n) (c.count_before-within.ensures.front ∙ ap (λ p. front test (arranged slots p)) read)
+    ∙ front_pieces slots test ps piece c.piece_of-piece.ensures.there c.piece_of-piece.ensures.behind (front_end slots test ps piece c.piece_of-piece.ensures.there c.piece_of-piece.ensures.before)
+
+pub returns-clause-end : goal.returns-clause-end
+returns-clause-end c end =
+    let slots = c.args.slots.now in
+    let ps = c.args.order.now.pieces.items in
+    let piece = c.piece_of-piece.result in
+    let test = stands_before c.args.cut.now in
+    let read = c.as_slice.ensures ∙ c.index.ensures ∙ get_or_default ps piece c.index.result.now [] c.piece_of-piece.ensures.there in
+    let is = front_pieces slots test ps piece c.piece_of-piece.ensures.there c.piece_of-piece.ensures.behind (front_end slots test ps piece c.piece_of-piece.ensures.there c.piece_of-piece.ensures.before) in
+    let here = c.count_before-within.ensures.front ∙ ap (λ p. front test (arranged slots p)) read in
+    all_behind slots test ps piece c.piece_of-piece.ensures.there c.piece_of-piece.ensures.before c.count_before-within.result end (ap (λ n. offset ps piece + n) here ∙ is)

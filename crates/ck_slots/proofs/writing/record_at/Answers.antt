@@ -12,14 +12,14 @@ returns-then-at-count-clause-fits c =
 pub returns-then-at-count-2-clause-value : goal.returns-then-at-count-2-clause-value
 returns-then-at-count-2-clause-value c =
     let s = c.args.table.now in
-    let e = c.entry_at-fileset.result in
-    entry_slot (table_in s) c.args.slot c.fileset_count-count.result ((e.0, e.1), e.2) c.if-slot-eq0.false c.fileset_count-count.ensures (omega (arith, c.if-at-count.false)) c.entry_at-fileset.ensures
+    let e = c.listed_at-fileset.result in
+    entry_slot (table_in s) c.args.slot c.fileset_count-count.result ((e.0, e.1), e.2) c.if-slot-eq0.false c.fileset_count-count.ensures (omega (arith, c.if-at-count.false)) c.listed_at-fileset.ensures
 
 pub returns-then-at-count-2-clause-fits : goal.returns-then-at-count-2-clause-fits
 returns-then-at-count-2-clause-fits c =
     let s = c.args.table.now in
-    let e = c.entry_at-fileset.result in
-    subst IsRecord (sym (entry_slot (table_in s) c.args.slot c.fileset_count-count.result ((e.0, e.1), e.2) c.if-slot-eq0.false c.fileset_count-count.ensures (omega (arith, c.if-at-count.false)) c.entry_at-fileset.ensures))
+    let e = c.listed_at-fileset.result in
+    subst IsRecord (sym (entry_slot (table_in s) c.args.slot c.fileset_count-count.result ((e.0, e.1), e.2) c.if-slot-eq0.false c.fileset_count-count.ensures (omega (arith, c.if-at-count.false)) c.listed_at-fileset.ensures))
     (record_within (table_in s) s.within_limits c.args.slot)
 
 pub returns-clause-value : goal.returns-clause-value

@@ -4,4 +4,4 @@ use Rattle.ck_slots.specs.Arranged.{entries_of}
 use Rattle.ck_slots.proofs.entries.Entries.new.Goals as goal
 
 pub returns-clause-entries : goal.returns-clause-entries
-returns-clause-entries c = ap (entries_of c.in_ok-with_capacity.field-0.items) c.in_ok-with_capacity-2.ensures.items ∙ from_nothing
+returns-clause-entries c = ap (entries_of c.in_ok-with_capacity.field-0.items) c.in_ok-new.ensures.numbers ∙ from_nothing

@@ -2,6 +2,7 @@ use Rattle.std.proofs.Common.{◌≡◌, ◌∷◌, [], Some, MatchOption, lengt
 use Rattle.std.specs.Option.{option_copied}
 use Rattle.ck_slots.specs.Arranged.{arranged}
 use Rattle.ck_slots.specs.Following.{keys_behind}
+use Rattle.ck_slots.specs.Order.{numbers_in}
 use Rattle.ck_slots.proofs.ArrangedLemmas.{entries-entries_of}
 use Rattle.ck_slots.proofs.OnceLemmas.{in_range}
 use Rattle.ck_slots.proofs.entries.Entries.next.Goals as goal
@@ -9,12 +10,12 @@ use Rattle.ck_slots.proofs.entries.Entries.next.Goals as goal
 pub next_key-requires-clause-within : goal.next_key-requires-clause-within
 next_key-requires-clause-within c =
     let s = c.args.self.now in
-    rw (c.deref-2.ensures.value, c.deref.ensures.value) (in_range (length s.slots.items) s.order.items s.free.items s.once)
+    rw c.deref.ensures.value (in_range (length s.slots.items) (numbers_in s.order) s.free.items s.once)
 
 pub returns : goal.returns
 returns c =
     let s = c.args.self.now in
     let after = option_copied c.args.after in
-    let next : MatchOption c.next_key.result (keys_behind (arranged s.slots.items s.order.items) c.args.fileset after ≡ []) (λ key. keys_behind (arranged s.slots.items s.order.items) c.args.fileset after ≡ key ∷ keys_behind (arranged s.slots.items s.order.items) c.args.fileset (Some key)) =
-    rw (c.deref.ensures.value, c.deref-2.ensures.value) at c.next_key.ensures in
-    subst (λ es. MatchOption c.next_key.result (keys_behind es c.args.fileset after ≡ []) (λ key. keys_behind es c.args.fileset after ≡ key ∷ keys_behind es c.args.fileset (Some key))) (sym (entries-entries_of s.slots.items s.order.items s.sorted)) next
+    let next : MatchOption c.next_key.result (keys_behind (arranged s.slots.items (numbers_in s.order)) c.args.fileset after ≡ []) (λ key. keys_behind (arranged s.slots.items (numbers_in s.order)) c.args.fileset after ≡ key ∷ keys_behind (arranged s.slots.items (numbers_in s.order)) c.args.fileset (Some key)) =
+    rw c.deref.ensures.value at c.next_key.ensures in
+    subst (λ es. MatchOption c.next_key.result (keys_behind es c.args.fileset after ≡ []) (λ key. keys_behind es c.args.fileset after ≡ key ∷ keys_behind es c.args.fileset (Some key))) (sym (entries-entries_of s.slots.items (numbers_in s.order) s.sorted)) next

@@ -11,8 +11,8 @@ loop-at-preserved c =
     let so_far = c.loop-at.invariant in
     let es = map.entries (table_in c.args.self.now).entries in
     record {
-      found = c.push_named.ensures.items ∙ ap (λ l. l ++ blocks_in c.at-entry.result.2) so_far.found
-          ∙ sym (blocks_more es c.loop-at.at ((c.at-entry.result.0, c.at-entry.result.1), c.at-entry.result.2) c.at-entry.ensures);
+      found = c.push_named.ensures.items ∙ ap (λ l. l ++ blocks_in c.listed_at-entry.result.2) so_far.found
+          ∙ sym (blocks_more es c.loop-at.at ((c.listed_at-entry.result.0, c.listed_at-entry.result.1), c.listed_at-entry.result.2) c.listed_at-entry.ensures);
       few = omega (arith, so_far.few, c.push_named.ensures.few);
       capacity = omega (arith, so_far.capacity, c.push_named.ensures.capacity);
     }
