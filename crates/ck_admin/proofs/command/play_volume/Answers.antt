@@ -17,13 +17,13 @@ returns-clause-ends g c =
     let mid : Meaning = g.D.Disk.means (disk_of c.args.volume) in
     let w = world_of mid.shows c.args.volume in
     let played = c.play_and_commit-played.new.volume in
-    let history = c.close.result.history.items in
-    subst (λ disk. EndsOn script clock w mid (g.D.Disk.means disk) old new c.status_of.result) (sym c.close.ensures.disk)
+    let history = c.close-disk.result.history.items in
+    subst (λ disk. EndsOn script clock w mid (g.D.Disk.means disk) old new c.status_of.result) (sym c.close-disk.ensures.disk)
     (inr (record {
       history = history;
       committed = c.in-Ok.committed;
       printed = c.print-printed.result;
-      played = subst (λ (es : List Entry). IsPlayed script clock w mid (g.D.Disk.means (disk_of played)) es c.in-Ok.committed) (sym c.close.ensures.history) c.in-Ok.ensures.played;
+      played = subst (λ (es : List Entry). IsPlayed script clock w mid (g.D.Disk.means (disk_of played)) es c.in-Ok.committed) (sym c.close-disk.ensures.history) c.in-Ok.ensures.played;
       whole = rw c.deref.ensures.value at c.print-printed.ensures.whole;
       fault = rw c.deref.ensures.value at c.print-printed.ensures.fault;
       status_is = c.status_of.ensures;

@@ -2,6 +2,7 @@ use Rattle.std.proofs.Common.{◌≡◌, ◌≤◌, ◌+◌, ◌^◌, ◌<◌, L
 use Rattle.ck_disk.specs.Disk.{Meaning}
 use Rattle.ck_model.specs.declared.entry.Entry.{Entry}
 use Rattle.ck_model.specs.History.{call_at}
+use Rattle.ck_script.specs.declared.line.Line.{Line}
 use Rattle.ck_script.specs.Numbered.{calls_in}
 use Rattle.ck_volume.specs.declared.volume.Volume.{Volume}
 use Rattle.ck_volume.specs.Volume.{disk_of, history_of, length_of, world_of}
@@ -13,7 +14,8 @@ use Rattle.ck_admin.proofs.playing.play.Goals as goal
 pub reserve-requires : goal.reserve-requires
 reserve-requires g c =
     let none : length_of c.args.volume.now ≡ 0 = ap (λ (es : List Entry). length es) c.requires.begun.history_is in
-    omega (arith, none, c.requires.few)
+    let many : length c.items.result.now ≡ length c.args.script.now.calls = ap (λ (lines : List Line). length lines) c.items.ensures in
+    omega (arith, none, many, c.requires.few)
 
 pub answer_all-requires-clause-begun : goal.answer_all-requires-clause-begun
 answer_all-requires-clause-begun g c = begun-reserved g.D.Disk.means c.args.volume.now c.reserve.new.self c.reserve.ensures.rest c.requires.begun
