@@ -128,10 +128,10 @@ fn what_is_deleted_leaves_room(rt: HostRuntime) -> Result<(), Fail> {
     Ok(())
 }
 
-// 7 and 2001 have no common factor, so these are the numbers 1 to 2000.
+// 7 and 1101 have no common factor, so these are the numbers 1 to 1100.
 fn put_many(slots: &mut Slots) -> bool {
-    for at in 1..2001 {
-        if !put_file(slots, at * 7 % 2001, 1) {
+    for at in 1..1101 {
+        if !put_file(slots, at * 7 % 1101, 1) {
             return false;
         }
     }
@@ -139,14 +139,14 @@ fn put_many(slots: &mut Slots) -> bool {
 }
 
 fn delete_odd(slots: &mut Slots) {
-    for half in 0..1000 {
+    for half in 0..550 {
         slots.del(0, &Key::Node(2 * half + 1));
     }
 }
 
 fn are_even(slots: &Slots) -> bool {
     let mut key = slots.next(0, None);
-    for half in 0..1001 {
+    for half in 0..551 {
         if key != Some(Key::Node(2 * half)) {
             return false;
         }
@@ -159,11 +159,11 @@ fn are_even(slots: &Slots) -> bool {
 fn each_second_of_many_stays(rt: HostRuntime) -> Result<(), Fail> {
     let mut slots = new_table(rt.alloc(), 1, 2048)?;
     assert!(rt; put_many(&mut slots));
-    assert_eq!(rt; slots.entry_count(), 2001);
+    assert_eq!(rt; slots.entry_count(), 1101);
     delete_odd(&mut slots);
     assert!(rt; are_even(&slots));
-    assert!(rt; slots.entry_count() == 1001);
-    assert_eq!(rt; slots.entry_at(1000).1, Key::Node(2000));
+    assert!(rt; slots.entry_count() == 551);
+    assert_eq!(rt; slots.entry_at(550).1, Key::Node(1100));
     Ok(())
 }
 
