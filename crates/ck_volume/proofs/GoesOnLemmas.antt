@@ -7,7 +7,7 @@ use Rattle.ck_model.specs.World.{World}
 use Rattle.ck_volume.specs.Allocating.{KeepsBusy}
 use Rattle.ck_volume.specs.Committed.{Keeps, OpensToEither}
 use Rattle.ck_volume.specs.Reading.{OnlyReads}
-use Rattle.ck_volume.specs.Storing.{LeavesTorn, OnlyStores}
+use Rattle.ck_volume.specs.Storing.{OnlyStores}
 use Rattle.ck_volume.proofs.CommittedLemmas.{keeps-recovers, keeps-busy, keeps-stores, keeps-torn, keeps-reads, leaves_start, leaves_step, leaves_stores}
 
 -- either of two worlds is kept

@@ -1,13 +1,10 @@
 use Rattle.std.proofs.Common.{◌≡◌, ◌||◌, false, [], sym, ap, subst, ◌∙◌, arith}
 use Rattle.std.specs.FinMap as map
 use Rattle.std.specs.FinSet as set
-use Rattle.ck_model.specs.declared.change.Change.{Change}
 use Rattle.ck_model.specs.declared.checkpoint.Counters.{Counters}
 use Rattle.ck_model.specs.Held.{IsCounters}
-use Rattle.ck_model.specs.Table.{Table}
 use Rattle.ck_tree.specs.Plan.{numbers_after}
-use Rattle.ck_volume.specs.Allocating.{IsAllocatedBut}
-use Rattle.ck_volume.specs.Changing.{IsRaised, MayChangeAll, changed_all, raised, written_by}
+use Rattle.ck_volume.specs.Changing.{IsRaised, MayChangeAll, changed_all, raised}
 use Rattle.ck_volume.specs.Device.{store_on}
 use Rattle.ck_volume.proofs.PlacingLemmas.{planned_up, planned_raised, stored_first, stored_room, stored_may, stored_allocated, stored-done}
 use Rattle.ck_volume.proofs.SafeLemmas.{kept_there}
