@@ -26,15 +26,20 @@ fn new_volume(alloc: Global, failing: u64) -> Result<Volume<MemDisk>, Fail>
     ensures length { IfOk result (λ volume. length_of volume ≡ 0) }
 {
     let disk = device(alloc, NEEDED, failing)?;
-    let formatted = Volume::format(alloc, disk, BLOCKS, RECORDS);
-    Ok(formatted.ok().ok_or("not formatted")?)
+    let Ok(volume) = Volume::format(alloc, disk, BLOCKS, RECORDS) else {
+        return Err(Fail::from("not formatted"));
+    };
+    Ok(volume)
 }
 
 fn opened(alloc: Global, disk: MemDisk) -> Result<Volume<MemDisk>, Fail>
     ensures ready { IfOk result (λ volume. IsReady (meaning (disk_of volume)) volume) }
     ensures length { IfOk result (λ volume. length_of volume ≡ 0) }
 {
-    Ok(Volume::open(alloc, disk).ok().ok_or("not opened")?)
+    let Ok(volume) = Volume::open(alloc, disk) else {
+        return Err(Fail::from("not opened"));
+    };
+    Ok(volume)
 }
 
 fn file(alloc: Global) -> Result<Path, Fail> {
