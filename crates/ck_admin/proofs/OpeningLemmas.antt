@@ -1,5 +1,5 @@
 -- The status of a device that isn't opened or formatted.
-use Rattle.std.proofs.Common.{◌≡◌, ◌≤◌, ◌<◌, ℕ, List, Some, Result, Ok, Err, IfOk, sym, ap, ◌∙◌, subst, arith}
+use Rattle.std.proofs.Common.{◌≡◌, ◌<◌, ℕ, List, Some, Result, Ok, Err, IfOk, sym, ap, ◌∙◌}
 use Rattle.ck_disk.specs.Disk.{Meaning}
 use Rattle.ck_log.specs.Layout.{size_of}
 use Rattle.ck_volume.specs.Opening.{IsFound}

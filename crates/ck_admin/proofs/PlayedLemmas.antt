@@ -1,6 +1,5 @@
 -- A play with the commit behind it.
-use Rattle.std.proofs.Common.{◌≡◌, ◌≢◌, ◌⊎◌, inl, inr, ⊎_elim, ℕ, ◌+◌, ◌≤◌, Bool, true, false, None, Some, Option, is_some, IsTrue, IsSome, List, refl, sym, ap, ◌∙◌, subst, arith}
-use Rattle.std.specs.Prelude.{◌-◌, ◌^◌, min}
+use Rattle.std.proofs.Common.{◌≡◌, ◌≢◌, ⊎_elim, ℕ, ◌≤◌, true, false, None, Some, is_some, IsTrue, IsSome, List, refl, sym, ap, ◌∙◌, subst, arith}
 use mathlib.Core.Bool.{false≢true}
 use Rattle.ck_disk.specs.Disk.{Image, Meaning, Lawful, LeavesOnly, Rose}
 use Rattle.ck_io.specs.Clock.{ClockMeaning}
@@ -18,7 +17,7 @@ use Rattle.ck_volume.specs.Volume.{disk_of, broken_of, world_of, KeepsWorld, Run
 use Rattle.ck_volume.proofs.CommittedLemmas.{leaves_more, leaves_now}
 use Rattle.ck_admin.specs.Crash.{synced_count, RecoversCut, CutFrom, KeepsCut, LeavesVolume, found_broken, IsPlayed}
 use Rattle.ck_admin.specs.Play.{HasCauses, IsPlay, lost_a_write}
-use Rattle.ck_admin.proofs.CrashLemmas.{cut_least, cut_either, leaves_both, leaves_untold, told_or_not, broken_or_not, no_one}
+use Rattle.ck_admin.proofs.CrashLemmas.{cut_least, cut_either, leaves_both, leaves_untold, told_or_not, broken_or_not}
 
 -- what a commit says
 pub record Committed {D : Type 0} (mid new : Meaning) (before after : Volume D) (committed : CommitAnswer) : Type 0 where

@@ -1,10 +1,9 @@
 -- How a play ends, by what its parts answer.
-use Rattle.std.proofs.Common.{◌≡◌, ◌⊎◌, inl, inr, ⊎_elim, ℕ, zero, suc, ◌+◌, ◌<◌, ◌≤◌, Bool, true, false, ◌||◌, IsTrue, List, [], ◌∷◌, length, take, get_or, if◌then◌else◌, refl, sym, ap, ◌∙◌, subst, arith}
-use Rattle.std.specs.Prelude.{◌-◌, ◌^◌, min, Result, Ok, Err, OnOk, IfErr}
+use Rattle.std.proofs.Common.{◌≡◌, ◌⊎◌, inl, inr, ⊎_elim, ℕ, suc, ◌+◌, ◌≤◌, true, false, ◌||◌, IsTrue, List, [], ◌∷◌, length, get_or, if◌then◌else◌, refl, sym, ap, ◌∙◌, subst, arith}
+use Rattle.std.specs.Prelude.{Result, Ok, Err, OnOk, IfErr}
 use Rattle.ck_disk.specs.Disk.{Image, Meaning, Lawful, Agrees, IsClean, IsSynced, LeavesOnly, Rose}
 use Rattle.ck_model.specs.declared.call.Call.{Call}
 use Rattle.ck_model.specs.declared.entry.Entry.{Entry}
-use Rattle.ck_model.specs.Streams.{Texts}
 use Rattle.ck_model.specs.World.{World, unmounted}
 use Rattle.ck_model.specs.History.{CallsBy, call_at, is_write_fault}
 use Rattle.ck_report.specs.declared.status.Status.{Status}
@@ -21,7 +20,7 @@ use Rattle.ck_admin.specs.Ending.{IsPrinted, IsUnplayed, EndsOn}
 use Rattle.ck_admin.specs.Crash.{synced_count, RecoversCut, CutFrom, LeavesCuts, found_broken, IsPlayed}
 use Rattle.ck_admin.specs.Play.{IsPlay, HasCauses, replies_of, lost_a_write}
 use Rattle.ck_admin.specs.Statuses.{IsPrintFault, IsOpenStatus, play_status}
-use Rattle.ck_admin.specs.Top.{PrintsPlay, EndsWhole, EndsAnyhow, LostNothing, Gains, GainsFront, GainsNothing, GainsAllOrNothing, EndsPlay, leaves_device}
+use Rattle.ck_admin.specs.Top.{PrintsPlay, EndsWhole, EndsAnyhow, LostNothing, Gains, GainsFront, GainsAllOrNothing, EndsPlay, leaves_device}
 use Rattle.ck_volume.proofs.OpenLemmas.{leaves_on}
 use Rattle.ck_admin.proofs.PlayedLemmas.{rose_later}
 

@@ -1,5 +1,5 @@
 -- What the top call promises.
-use Rattle.std.specs.Prelude.{◌≡◌, ◌≤◌, ◌<◌, ◌++◌, ◌⊎◌, ⊤, ℕ, Bool, true, false, List, Option, Some, None, IsTrue, Ok, Err}
+use Rattle.std.specs.Prelude.{◌≡◌, ◌<◌, ◌++◌, ◌⊎◌, ⊤, ℕ, Bool, true, false, List, Option, Some, None, IsTrue, Ok, Err}
 use Rattle.ck_disk.specs.Disk.{Image, Meaning, LeavesOnly, Rose}
 use Rattle.ck_log.specs.Layout.{size_of}
 use Rattle.ck_model.specs.declared.entry.Entry.{Entry}

@@ -1,4 +1,4 @@
-use Rattle.std.proofs.Common.{◌≡◌, IsTrue, refl, sym, ap, subst}
+use Rattle.std.proofs.Common.{◌≡◌, IsTrue, ap, subst}
 use Rattle.ck_disk.specs.Disk.{Meaning}
 use Rattle.ck_model.specs.Standing.{world_on}
 use Rattle.ck_model.specs.World.{World, unmounted}

@@ -1,11 +1,10 @@
-use Rattle.std.proofs.Common.{◌≡◌, ℕ, ◌+◌, ◌<◌, ◌≤◌, ◌∷◌, ◌++◌, [], List, None, Some, suc, length, is_some, IsTrue, refl, subst, sym, ap, ◌∙◌, arith}
+use Rattle.std.proofs.Common.{◌≡◌, ◌+◌, ◌<◌, ◌≤◌, ◌∷◌, ◌++◌, [], List, None, Some, suc, length, is_some, IsTrue, refl, subst, sym, ap, ◌∙◌, arith}
 use Rattle.ck_disk.specs.Disk.{Meaning}
 use Rattle.ck_io.specs.Clock.{ClockMeaning}
 use Rattle.ck_model.specs.declared.entry.Entry.{Entry}
-use Rattle.ck_model.specs.Streams.{Texts}
 use Rattle.ck_model.specs.World.{World, unmounted}
 use Rattle.ck_model.specs.Standing.{world_on}
-use Rattle.ck_model.specs.History.{Past, CallsBy, begun, call_at, state}
+use Rattle.ck_model.specs.History.{Past, CallsBy, begun, call_at}
 use Rattle.ck_script.specs.declared.line.Line.{Line}
 use Rattle.ck_script.specs.Numbered.{calls_in, IsNumbered}
 use Rattle.ck_volume.specs.Device.{store_on}

@@ -1,5 +1,4 @@
-use Rattle.std.proofs.Common.{◌≡◌, ◌≤◌, ◌+◌, ◌^◌, ◌<◌, List, length, ap, subst, arith}
-use Rattle.ck_disk.specs.Disk.{Meaning}
+use Rattle.std.proofs.Common.{◌≡◌, List, length, ap, subst, arith}
 use Rattle.ck_model.specs.declared.entry.Entry.{Entry}
 use Rattle.ck_model.specs.History.{call_at}
 use Rattle.ck_script.specs.declared.line.Line.{Line}
