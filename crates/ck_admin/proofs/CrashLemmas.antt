@@ -5,6 +5,7 @@ use Rattle.std.specs.Option.{option_or, option_map_or}
 use Rattle.std.proofs.lemmas.List.{take_all}
 use Rattle.std.proofs.lemmas.Bool.Decides.{nat_tests}
 use mathlib.Core.Bool.{false≢true}
+use Rattle.ck_disk.specs.declared.disk.Disk.{Ghosts}
 use Rattle.ck_disk.specs.Disk.{Image, Meaning, Lawful, LeavesOnly}
 use Rattle.ck_model.specs.declared.call.Call.{Call}
 use Rattle.ck_model.specs.declared.call.Call.TheVariants.{Make, Mkdir, Rm, Rmdir, Mv, Write, Fill, Trunc, Read, List as Ls, Stat, Create, Remove, Nodata, Removable, Ckpts, Mount, Umount, Cread, Clist, Restore, Backup, Full, Info, Sync}
@@ -19,7 +20,8 @@ use Rattle.ck_volume.specs.declared.volume.Volume.{Volume}
 use Rattle.ck_volume.specs.Volume.{disk_of, broken_of, length_of, world_of, KeepsWorld, Runs, Survives}
 use Rattle.ck_volume.proofs.CommittedLemmas.{leaves_more, leaves_now}
 use Rattle.ck_volume.proofs.KeptLaws.{kept-recovers}
-use Rattle.ck_admin.specs.Crash.{is_sync, is_synced, synced_from, synced_count, RecoversCut, CutFrom, KeepsCut}
+use Rattle.ck_volume.specs.Causes.{is_sync}
+use Rattle.ck_admin.specs.Crash.{is_synced, synced_from, synced_count, RecoversCut, CutFrom, KeepsCut}
 
 -- ---- cuts of a history that grows
 
@@ -91,7 +93,7 @@ cut_whole calls w now history least image low stands recovers = record {
 }
 
 -- an image with the committed one
-pub cut_kept : {D : Type 0} (calls : CallsBy) (w : World) (history : List Entry) (m : Meaning) (volume : Volume D) (kept : KeepsCut calls w history m volume) (image : Image) → Recovers image kept.committed
+pub cut_kept : {D : Type 0} {g : Ghosts D} (calls : CallsBy) (w : World) (history : List Entry) (m : Meaning) (volume : Volume D g) (kept : KeepsCut calls w history m volume) (image : Image) → Recovers image kept.committed
     → RecoversCut calls w history (synced_count calls history) image
 cut_kept calls w history m volume kept image recovers = record {
   count = kept.count;
@@ -101,7 +103,7 @@ cut_kept calls w history m volume kept image recovers = record {
 }
 
 -- the one or the other
-pub cut_either : {D : Type 0} (calls : CallsBy) (w : World) (history : List Entry) (m : Meaning) (volume : Volume D) (now : World) (kept : KeepsCut calls w history m volume) → ((texts : Texts) → now ≡ state texts calls w history)
+pub cut_either : {D : Type 0} {g : Ghosts D} (calls : CallsBy) (w : World) (history : List Entry) (m : Meaning) (volume : Volume D g) (now : World) (kept : KeepsCut calls w history m volume) → ((texts : Texts) → now ≡ state texts calls w history)
     → (image : Image) → OpensToEither kept.committed (unmounted now) image → RecoversCut calls w history (synced_count calls history) image
 cut_either calls w history m volume now kept stands image either =
     ⊎_elim
@@ -111,7 +113,7 @@ cut_either calls w history m volume now kept stands image either =
 
 -- ---- what is committed
 
-keeps_whole : {D : Type 0} (calls : CallsBy) (w now : World) (history : List Entry) (m : Meaning) (volume : Volume D) → ((texts : Texts) → now ≡ state texts calls w history) → KeepsWorld m volume (unmounted now) → KeepsCut calls w history m volume
+keeps_whole : {D : Type 0} {g : Ghosts D} (calls : CallsBy) (w now : World) (history : List Entry) (m : Meaning) (volume : Volume D g) → ((texts : Texts) → now ≡ state texts calls w history) → KeepsWorld m volume (unmounted now) → KeepsCut calls w history m volume
 keeps_whole calls w now history m volume stands keeps = record {
   count = length history;
   least_is = synced_within calls history;
@@ -122,7 +124,7 @@ keeps_whole calls w now history m volume stands keeps = record {
 }
 
 -- the same world, after one entry more that is no acknowledged sync
-keeps_more : {D : Type 0} (calls : CallsBy) (w : World) (history : List Entry) (entry : Entry) (mid new : Meaning) (before after : Volume D) → is_synced calls entry ≡ false
+keeps_more : {D : Type 0} {g : Ghosts D} (calls : CallsBy) (w : World) (history : List Entry) (entry : Entry) (mid new : Meaning) (before after : Volume D g) → is_synced calls entry ≡ false
     → (kept : KeepsCut calls w history mid before) → KeepsWorld new after kept.committed → KeepsCut calls w (history ++ entry ∷ []) new after
 keeps_more calls w history entry mid new before after other kept keeps =
     let more = longer history entry in
@@ -137,7 +139,7 @@ keeps_more calls w history entry mid new before after other kept keeps =
     }
 
 -- the world from before the entry
-keeps_last : {D : Type 0} (calls : CallsBy) (w now : World) (history : List Entry) (entry : Entry) (new : Meaning) (after : Volume D) → is_synced calls entry ≡ false → ((texts : Texts) → now ≡ state texts calls w history)
+keeps_last : {D : Type 0} {g : Ghosts D} (calls : CallsBy) (w now : World) (history : List Entry) (entry : Entry) (new : Meaning) (after : Volume D g) → is_synced calls entry ≡ false → ((texts : Texts) → now ≡ state texts calls w history)
     → KeepsWorld new after (unmounted now) → KeepsCut calls w (history ++ entry ∷ []) new after
 keeps_last calls w now history entry new after other stands keeps =
     let more = longer history entry in
@@ -217,13 +219,13 @@ pub no_one : {A : Type 0} (o : Option A) (x : A) → o ≡ Some x → o ≡ None
 no_one o x some none = cc
 
 -- what holds of crashes after some entries
-pub record IsSafeSoFar {D : Type 0} (calls : CallsBy) (w : World) (old now : Meaning) (history : List Entry) (volume : Volume D) : Type 0 where
+pub record IsSafeSoFar {D : Type 0} {g : Ghosts D} (calls : CallsBy) (w : World) (old now : Meaning) (history : List Entry) (volume : Volume D g) : Type 0 where
   pub any_moment : LeavesOnly old now (CutFrom old calls w history 0)
   pub at_the_end : (image : Image) → now.may_leave image → CutFrom old calls w history (synced_count calls history) image
   pub kept : broken_of volume ≡ None → IsTrue old.tells → KeepsCut calls w history now volume
 
 -- what an event says of crashes
-pub record Survived {D : Type 0} (mid new : Meaning) (before after : Volume D) (call : Call) (entry : Entry) : Type 0 where
+pub record Survived {D : Type 0} {g : Ghosts D} (mid new : Meaning) (before after : Volume D g) (call : Call) (entry : Entry) : Type 0 where
   pub runs : Runs mid new
   pub survives : broken_of before ≡ None → Survives mid new before
   pub kept : broken_of after ≡ None → IsTrue mid.tells → (w : World) → KeepsWorld mid before w → KeepsWorld new after w ⊎ KeepsWorld new after (unmounted (world_of mid.shows before))
@@ -259,7 +261,7 @@ leaves_untold old now T P untold runs = record {
   before = λ t image early left. inr (λ told. absurd (untold told));
 }
 
-module _ {D : Type 0} (means : D → Meaning) (law : (d : D) → Lawful (means d)) (calls : CallsBy) (w : World) (old : Meaning) (history : List Entry) (entry : Entry) (call : Call) (before after : Volume D)
+module _ {D : Type 0} {g : Ghosts D} (means : D → Meaning) (law : (d : D) → Lawful (means d)) (calls : CallsBy) (w : World) (old : Meaning) (history : List Entry) (entry : Entry) (call : Call) (before after : Volume D g)
     (safe : IsSafeSoFar calls w old (means (disk_of before)) history before)
     (event : Survived (means (disk_of before)) (means (disk_of after)) before after call entry)
     (untouched : IsSome (broken_of before) → disk_of after ≡ disk_of before)
@@ -347,7 +349,7 @@ module _ {D : Type 0} (means : D → Meaning) (law : (d : D) → Lawful (means d
     synced_end : is_synced calls entry ≡ true → (image : Image) → new.may_leave image → CutFrom old calls w whole (synced_count calls whole) image
     synced_end synced image left told =
         cut_whole calls w (world_of new.shows after) whole (synced_count calls whole) image (synced_within calls whole) (stands_after told)
-        (kept-recovers new after (unmounted (world_of new.shows after)) (synced_keeps synced told) image left)
+        (kept-recovers new after.engine (unmounted (world_of new.shows after)) (synced_keeps synced told) image left)
 
     synced_kept : is_synced calls entry ≡ true → broken_of after ≡ None → IsTrue old.tells → KeepsCut calls w whole new after
     synced_kept synced unbroken told = keeps_whole calls w (world_of new.shows after) whole new after (stands_after told) (synced_keeps synced told)
@@ -373,14 +375,14 @@ module _ {D : Type 0} (means : D → Meaning) (law : (d : D) → Lawful (means d
       (broken_or_not (broken_of before))
 
 -- at the beginning
-pub safe_begins : {D : Type 0} (calls : CallsBy) (w : World) (m : Meaning) (volume : Volume D) → Lawful m → w ≡ unmounted w → (IsTrue m.tells → KeepsWorld m volume w) → IsSafeSoFar calls w m m [] volume
+pub safe_begins : {D : Type 0} {g : Ghosts D} (calls : CallsBy) (w : World) (m : Meaning) (volume : Volume D g) → Lawful m → w ≡ unmounted w → (IsTrue m.tells → KeepsWorld m volume w) → IsSafeSoFar calls w m m [] volume
 safe_begins calls w m volume law bare keeps =
     let cut : (least : ℕ) → least ≤ 0 → (image : Image) → m.may_leave image → CutFrom m calls w [] least image =
     λ least low image left told. record {
       count = 0;
       least_is = low;
       within = omega arith;
-      recovers = λ texts. subst (Recovers image) bare (kept-recovers m volume w (keeps told) image left);
+      recovers = λ texts. subst (Recovers image) bare (kept-recovers m volume.engine w (keeps told) image left);
     } in
     record {
       any_moment = record {

@@ -20,7 +20,8 @@ use Rattle.ck_io.specs.Clock.{ClockMeaning}
 use Rattle.ck_disk.specs.Disk.{Meaning, Rose}
 use Rattle.ck_model.specs.declared.reply.Reply.TheVariants.{Broken}
 use Rattle.ck_volume.specs.Volume.{Follows, HasCause, is_read_fault}
-use Rattle.ck_admin.specs.Play.{replies_of, HasCauses, broken_by, BreaksFrom, lost_a_write, IsPlay, IsLater}
+use Rattle.ck_volume.specs.Causes.{replies_of, HasCauses}
+use Rattle.ck_admin.specs.Play.{broken_by, BreaksFrom, lost_a_write, IsPlay, IsLater}
 
 get_here : {A : Type 0} (xs : List A) (y : A) (ys : List A) → slice_get (xs ++ y ∷ ys) (length xs) ≡ Some y
 get_here [] y ys = refl

@@ -1,6 +1,7 @@
 -- A play with the commit behind it.
 use Rattle.std.proofs.Common.{◌≡◌, ◌≢◌, ⊎_elim, ℕ, ◌≤◌, true, false, None, Some, is_some, IsTrue, IsSome, List, refl, sym, ap, ◌∙◌, subst, arith}
 use mathlib.Core.Bool.{false≢true}
+use Rattle.ck_disk.specs.declared.disk.Disk.{Ghosts}
 use Rattle.ck_disk.specs.Disk.{Image, Meaning, Lawful, LeavesOnly, Rose}
 use Rattle.ck_io.specs.Clock.{ClockMeaning}
 use Rattle.ck_model.specs.declared.call.Call.{Call}
@@ -16,11 +17,12 @@ use Rattle.ck_volume.specs.declared.volume.Volume.{Volume}
 use Rattle.ck_volume.specs.Volume.{disk_of, broken_of, world_of, KeepsWorld, Runs, Survives}
 use Rattle.ck_volume.proofs.CommittedLemmas.{leaves_more, leaves_now}
 use Rattle.ck_admin.specs.Crash.{synced_count, RecoversCut, CutFrom, KeepsCut, LeavesVolume, found_broken, IsPlayed}
-use Rattle.ck_admin.specs.Play.{HasCauses, IsPlay, lost_a_write}
+use Rattle.ck_volume.specs.Causes.{HasCauses}
+use Rattle.ck_admin.specs.Play.{IsPlay, lost_a_write}
 use Rattle.ck_admin.proofs.CrashLemmas.{cut_least, cut_either, leaves_both, leaves_untold, told_or_not, broken_or_not}
 
 -- what a commit says
-pub record Committed {D : Type 0} (mid new : Meaning) (before after : Volume D) (committed : CommitAnswer) : Type 0 where
+pub record Committed {D : Type 0} {g : Ghosts D} (mid new : Meaning) (before after : Volume D g) (committed : CommitAnswer) : Type 0 where
   pub runs : Runs mid new
   pub world : IsTrue mid.tells → world_of new.shows after ≡ world_of mid.shows before
   pub refused : (n : ℕ) → broken_of before ≡ Some n → committed ≡ answer.Broken n
@@ -53,7 +55,7 @@ other_found answer.NoMemory other = refl
 done_unbroken : (committed : CommitAnswer) (n : ℕ) → committed ≡ answer.Broken n → committed ≡ answer.Done → ⊥
 done_unbroken committed n is done = false≢true (sym (ap found_broken done) ∙ ap found_broken is)
 
-module _ {D : Type 0} (means : D → Meaning) (law : (d : D) → Lawful (means d)) (script : List (ℕ × Call)) (clock : ClockMeaning) (w : World) (old : Meaning) (history : List Entry) (before after : Volume D) (committed : CommitAnswer)
+module _ {D : Type 0} {g : Ghosts D} (means : D → Meaning) (law : (d : D) → Lawful (means d)) (script : List (ℕ × Call)) (clock : ClockMeaning) (w : World) (old : Meaning) (history : List Entry) (before after : Volume D g) (committed : CommitAnswer)
     (play : IsPlay script clock w old (means (disk_of before)) history)
     (leaves : LeavesVolume (call_at script) w old (means (disk_of before)) history before)
     (lost : is_some (broken_of before) ≡ lost_a_write history)

@@ -18,7 +18,8 @@ use Rattle.ck_volume.specs.declared.closing.CommitAnswer.TheVariants as answer
 use Rattle.ck_volume.specs.Recovering.{Recovers}
 use Rattle.ck_admin.specs.Ending.{IsPrinted, IsUnplayed, EndsOn}
 use Rattle.ck_admin.specs.Crash.{synced_count, RecoversCut, CutFrom, LeavesCuts, found_broken, IsPlayed}
-use Rattle.ck_admin.specs.Play.{IsPlay, HasCauses, replies_of, lost_a_write}
+use Rattle.ck_volume.specs.Causes.{HasCauses, replies_of}
+use Rattle.ck_admin.specs.Play.{IsPlay, lost_a_write}
 use Rattle.ck_admin.specs.Statuses.{IsPrintFault, IsOpenStatus, play_status}
 use Rattle.ck_admin.specs.Top.{PrintsPlay, EndsWhole, EndsAnyhow, LostNothing, Gains, GainsFront, GainsAllOrNothing, EndsPlay, leaves_device}
 use Rattle.ck_volume.proofs.OpenLemmas.{leaves_on}

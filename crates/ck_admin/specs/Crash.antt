@@ -2,9 +2,9 @@
 use Rattle.std.specs.Prelude.{◌≡◌, ◌≤◌, ◌+◌, ◌&&◌, ◌⊎◌, ℕ, Bool, true, false, List, [], ◌∷◌, None, IsTrue, length, take, nat_eq, if◌then◌else◌}
 use Rattle.std.specs.Option.{option_map_or}
 use Rattle.ck_disk.specs.Disk.{Image, Meaning, IsSynced, LeavesOnly, Rose}
+use Rattle.ck_disk.specs.declared.disk.Disk.{Ghosts}
 use Rattle.ck_io.specs.Clock.{ClockMeaning}
 use Rattle.ck_model.specs.declared.call.Call.{Call}
-use Rattle.ck_model.specs.declared.call.Call.TheVariants.{Sync}
 use Rattle.ck_model.specs.declared.entry.Entry.{Entry}
 use Rattle.ck_model.specs.Streams.{Texts}
 use Rattle.ck_model.specs.World.{World, unmounted}
@@ -12,16 +12,13 @@ use Rattle.ck_model.specs.History.{CallsBy, call_at, state, reply_number}
 use Rattle.ck_volume.specs.declared.closing.CommitAnswer.{CommitAnswer}
 use Rattle.ck_volume.specs.declared.closing.CommitAnswer.TheVariants as answer
 use Rattle.ck_volume.specs.declared.volume.Volume.{Volume}
+use Rattle.ck_volume.specs.Causes.{is_sync}
 use Rattle.ck_volume.specs.Exact.{IsExact}
 use Rattle.ck_volume.specs.Recovering.{Recovers}
-use Rattle.ck_volume.specs.Volume.{broken_of, world_of, IsReady, KeepsWorld}
+use Rattle.ck_volume.specs.Volume.{broken_of, world_of, KeepsWorld}
 use Rattle.ck_admin.specs.Play.{IsPlay, lost_a_write}
 
 -- ---- which syncs were acknowledged
-
-abbrev pub is_sync : Call → Bool
-is_sync Sync = true
-is_sync _ = false
 
 -- the entry says that a sync was done
 abbrev pub is_synced : CallsBy → Entry → Bool
@@ -61,7 +58,7 @@ pub record LeavesCuts (calls : CallsBy) (w : World) (old new : Meaning) (history
 -- ---- a play, and the commit behind it
 
 -- what is committed on a volume: the world after the first entries of the history, as many as were acknowledged or more
-pub record KeepsCut {D : Type 0} (calls : CallsBy) (w : World) (history : List Entry) (m : Meaning) (volume : Volume D) : Type 0 where
+pub record KeepsCut {D : Type 0} {g : Ghosts D} (calls : CallsBy) (w : World) (history : List Entry) (m : Meaning) (volume : Volume D g) : Type 0 where
   pub count : ℕ
   pub least_is : synced_count calls history ≤ count
   pub within : count ≤ length history
@@ -70,8 +67,7 @@ pub record KeepsCut {D : Type 0} (calls : CallsBy) (w : World) (history : List E
   pub keeps : KeepsWorld m volume committed
 
 -- how a play leaves its volume
-pub record LeavesVolume {D : Type 0} (calls : CallsBy) (w : World) (old new : Meaning) (history : List Entry) (volume : Volume D) : Type 0 where
-  pub ready : IsReady new volume
+pub record LeavesVolume {D : Type 0} {g : Ghosts D} (calls : CallsBy) (w : World) (old new : Meaning) (history : List Entry) (volume : Volume D g) : Type 0 where
   pub stands : IsTrue old.tells → (texts : Texts) → world_of new.shows volume ≡ state texts calls w history
   pub any_moment : LeavesOnly old new (CutFrom old calls w history 0)
   pub at_the_end : (image : Image) → new.may_leave image → CutFrom old calls w history (synced_count calls history) image

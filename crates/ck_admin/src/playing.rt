@@ -1,10 +1,9 @@
-ghost use Rattle.std.specs.Prelude.{◌≡◌, ◌≤◌, [], IfOk, OnOk, OnErr, IsTrue, is_some, length};
+ghost use Rattle.std.specs.Prelude.{◌≡◌, ◌≤◌, [], None, IfOk, OnOk, OnErr, IsTrue, is_some, length};
 ghost use Rattle.std.specs.List.{AllByRecursion};
 ghost use Rattle.ck_model.specs.History.{call_at};
 ghost use Rattle.ck_script.specs.Numbered.{calls_in};
 ghost use Rattle.ck_volume.specs.Built.{IsBuilt};
-ghost use Rattle.ck_volume.specs.Opening.{IsBegun};
-ghost use Rattle.ck_volume.specs.Volume.{disk_of, history_of, room_of, broken_of, world_of, KeepsWorld};
+ghost use Rattle.ck_volume.specs.Volume.{disk_of, history_of, room_of, broken_of, spoilt_of, world_of, KeepsWorld, IsBegun};
 ghost use Rattle.ck_admin.specs.Crash.{LeavesVolume, IsPlayed};
 ghost use Rattle.ck_admin.specs.Play.{IsPlay, IsLater, lost_a_write};
 
@@ -24,6 +23,7 @@ fn answer_all<D: Disk, C: Clock>(
 )
     requires begun { IsBegun (D.means (disk_of volume.old)) volume.old }
     requires kept { IsTrue (D.means (disk_of volume.old)).tells → KeepsWorld (D.means (disk_of volume.old)) volume.old (world_of (D.means (disk_of volume.old)).shows volume.old) }
+    requires unspoilt { spoilt_of volume.old ≡ None }
     requires built { AllByRecursion (λ line. IsBuilt line.call) script.now.calls }
     requires room { length script.now.calls ≤ room_of volume.old }
     ensures play { IsPlay (calls_in script.now.calls) (C.means clock.old) (world_of (D.means (disk_of volume.old)).shows volume.old)
@@ -57,6 +57,7 @@ pub fn play<D: Disk, C: Clock>(
 ) -> Result<(), NoMemory>
     requires begun { IsBegun (D.means (disk_of volume.old)) volume.old }
     requires kept { IsTrue (D.means (disk_of volume.old)).tells → KeepsWorld (D.means (disk_of volume.old)) volume.old (world_of (D.means (disk_of volume.old)).shows volume.old) }
+    requires unspoilt { spoilt_of volume.old ≡ None }
     requires built { AllByRecursion (λ line. IsBuilt line.call) script.now.calls }
     requires few { length script.now.calls ≤ 65536 }
     ensures play { OnOk result (IsPlay (calls_in script.now.calls) (C.means clock.old) (world_of (D.means (disk_of volume.old)).shows volume.old)
@@ -82,6 +83,7 @@ pub fn play_and_commit<D: Disk, C: Clock>(
 ) -> Result<CommitAnswer, NoMemory>
     requires begun { IsBegun (D.means (disk_of volume.old)) volume.old }
     requires kept { IsTrue (D.means (disk_of volume.old)).tells → KeepsWorld (D.means (disk_of volume.old)) volume.old (world_of (D.means (disk_of volume.old)).shows volume.old) }
+    requires unspoilt { spoilt_of volume.old ≡ None }
     requires built { AllByRecursion (λ line. IsBuilt line.call) script.now.calls }
     requires few { length script.now.calls ≤ 65536 }
     ensures played { IfOk result (λ committed. IsPlayed (calls_in script.now.calls) (C.means clock.old) (world_of (D.means (disk_of volume.old)).shows volume.old)

@@ -1,5 +1,5 @@
 -- Where a history stands once a call was answered.
-use Rattle.std.proofs.Common.{◌≡◌, ℕ, ◌+◌, ◌≤◌, true, false, Option, Some, None, IsSomeAnd, MatchBool, if◌then◌else◌, List, [], ◌∷◌, ◌++◌, length, refl, sym, ap, subst, ◌∙◌, arith, length-append}
+use Rattle.std.proofs.Common.{◌≡◌, ℕ, ◌+◌, ◌-◌, ◌<◌, ◌≤◌, slice_get, true, false, Option, Some, None, IsSomeAnd, MatchBool, if◌then◌else◌, List, [], ◌∷◌, ◌++◌, length, refl, sym, ap, subst, ◌∙◌, arith, length-append}
 use Rattle.std.specs.Option.{option_map_or}
 use mathlib.Core.Bool.{false≢true}
 use Rattle.ck_disk.specs.Disk.{Meaning}
@@ -13,7 +13,7 @@ use Rattle.ck_model.specs.Step.{Outcome, step}
 use Rattle.ck_model.specs.Space.{without_picks}
 use Rattle.ck_model.specs.History.{CallsBy, IsLegalAt, IsLegalWhole, IsRefusal, IsStepOf, world_after, is_fault, is_write_fault, is_broken}
 use Rattle.ck_volume.specs.Room.{answered_with}
-use Rattle.ck_volume.specs.Volume.{Answers, Follows, HasCause, IsEntryOf, newest, newest_from}
+use Rattle.ck_volume.specs.Engine.{Answers, Follows, HasCause, IsEntryOf, newest, newest_from}
 
 -- the entry that answers a call and gives nothing up
 abbrev pub entry_of : ℕ → ℕ → ℕ → Reply → Entry
@@ -37,6 +37,17 @@ module _ (history now : List Entry) (entry : Entry) (is : now ≡ history ++ ent
     where
       one : length (history ++ entry ∷ []) ≡ length history + 1
       one = simp length-append (omega arith)
+
+newest_from-last : (first : Entry) (history : List Entry) (entry : Entry) → slice_get (first ∷ history) (length history) ≡ Some entry → newest_from first history ≡ entry
+newest_from-last first [] entry h = cc
+newest_from-last first (next ∷ history) entry h = newest_from-last next history entry h
+
+-- the entry at the last place is the newest
+pub newest-last : (history : List Entry) (entry : Entry) (many : ℕ) → 0 < length history → many ≡ length history → slice_get history (many - 1) ≡ Some entry → newest history ≡ entry
+newest-last [] entry many some is h = absurd (omega (arith, some))
+newest-last (first ∷ history) entry many some is h =
+    let place : many - 1 ≡ length history = omega (arith, is) in
+    newest_from-last first history entry (subst (λ (k : ℕ). slice_get (first ∷ history) k ≡ Some entry) place h)
 
 pub is-entry : (actor seq at : ℕ) (reply : Reply) (entry : Entry) → entry ≡ entry_of actor seq at reply → IsEntryOf actor seq at entry
 is-entry actor seq at reply entry same = record {

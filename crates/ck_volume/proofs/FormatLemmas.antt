@@ -19,8 +19,8 @@ use Rattle.ck_volume.specs.Device.{store_on}
 use Rattle.ck_volume.specs.Formatting.{new_world, IsFormatted}
 use Rattle.ck_volume.specs.Plain.{IsOurs, IsPlain}
 use Rattle.ck_volume.specs.Safe.{HoldsTable}
-use Rattle.ck_volume.specs.declared.volume.Volume.{Volume}
-use Rattle.ck_volume.specs.Volume.{history_of, table_of, mounts_of, blocks_of, layout_of, KeepsWorld, Runs}
+use Rattle.ck_volume.specs.declared.engine.Engine.{Engine}
+use Rattle.ck_volume.specs.Engine.{history_of, table_of, mounts_of, blocks_of, layout_of, KeepsWorld, Runs}
 use Rattle.ck_volume.proofs.SafeLemmas.{written-built, written-undamaged, written-table}
 use Rattle.ck_volume.proofs.OpenLemmas.{synced-safe}
 use Rattle.ck_volume.proofs.KeptLaws.{kept-exact}
@@ -34,7 +34,7 @@ plain_new blocks records t is id fileset has =
 pub runs_of : (old new : Meaning) (P : Image → Type 0) → LeavesOnly old new P → Runs old new
 runs_of old new P ran = record { size = ran.size; tells = ran.tells; reads = ran.reads; writes = ran.writes; later = ran.later }
 
-module _ {D : Type 0} (blocks records : ℕ) (old new : Meaning) (volume : Volume D) (new_law : Lawful new) (runs : Runs old new)
+module _ {D : Type 0} (blocks records : ℕ) (old new : Meaning) (volume : Engine D) (new_law : Lawful new) (runs : Runs old new)
     (layout : layout_of volume ≡ new_layout blocks records) (new_is : table_of volume ≡ new_table (layout_of volume).blocks (layout_of volume).records) (ours : IsOurs (table_of volume)) (allocated : IsAllocated (table_of volume) (blocks_of volume))
     (stands : StandsForEmpty (table_of volume)) (written : AreSlots (first_table (table_blocks (layout_of volume).records)) (slots_of (layout_of volume) (table_of volume)))
     (size : size_of blocks records ≤ old.size) (found : IsTrue old.tells → recovered_region new.shows ≡ OpensAt (layout_of volume))

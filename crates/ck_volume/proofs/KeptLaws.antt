@@ -14,8 +14,8 @@ use Rattle.ck_volume.specs.Committed.{Keeps}
 use Rattle.ck_volume.specs.Device.{store_on}
 use Rattle.ck_volume.specs.Exact.{IsExact}
 use Rattle.ck_volume.specs.Recovering.{Recovery, Opens, Finds, FindsBy, recovery_of, Recovers}
-use Rattle.ck_volume.specs.declared.volume.Volume.{Volume}
-use Rattle.ck_volume.specs.Volume.{layout_of, blocks_of, KeepsWorld}
+use Rattle.ck_volume.specs.declared.engine.Engine.{Engine}
+use Rattle.ck_volume.specs.Engine.{layout_of, blocks_of, KeepsWorld}
 use Rattle.ck_volume.proofs.Worlds.{world_same}
 use Rattle.ck_volume.proofs.Rooms.{held-is, records-is}
 use Rattle.ck_volume.proofs.SafeLemmas.{named_same, holds-recovers}
@@ -38,11 +38,11 @@ keeps-exact layout blocks m w keeps image left =
     }
 
 -- a crash leaves the world that is kept
-pub kept-recovers : {D : Type 0} (m : Meaning) (volume : Volume D) (w : World) → KeepsWorld m volume w → (image : Image) → m.may_leave image → Recovers image w
+pub kept-recovers : {D : Type 0} (m : Meaning) (volume : Engine D) (w : World) → KeepsWorld m volume w → (image : Image) → m.may_leave image → Recovers image w
 kept-recovers m volume w keeps image left = keeps-recovers (layout_of volume) (blocks_of volume) m w keeps image left
 
 -- and nothing beside it
-pub kept-exact : {D : Type 0} (m : Meaning) (volume : Volume D) (w : World) → KeepsWorld m volume w → (image : Image) → m.may_leave image → IsExact w image
+pub kept-exact : {D : Type 0} (m : Meaning) (volume : Engine D) (w : World) → KeepsWorld m volume w → (image : Image) → m.may_leave image → IsExact w image
 kept-exact m volume w keeps image left = keeps-exact (layout_of volume) (blocks_of volume) m w keeps image left
 
 -- an image that has a world and nothing beside it opens to it

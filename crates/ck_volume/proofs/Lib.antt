@@ -30,3 +30,8 @@ pub mod Reserved
 pub mod OpenLemmas
 pub mod KeptLaws
 pub mod FormatLemmas
+pub mod Untruncated
+pub mod CausesLemmas
+pub mod ToldLemmas
+pub mod StandsLemmas
+pub mod StoodLemmas

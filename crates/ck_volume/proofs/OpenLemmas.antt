@@ -31,8 +31,8 @@ use Rattle.ck_volume.specs.Plain.{IsOurs, IsPlain}
 use Rattle.ck_volume.specs.Reading.{OnlyReads}
 use Rattle.ck_volume.specs.Recovering.{Recovery, NotVolume, BadFormat, Damaged, Finds, Recovers}
 use Rattle.ck_volume.specs.Safe.{HoldsTable, IsSafe}
-use Rattle.ck_volume.specs.declared.volume.Volume.{Volume}
-use Rattle.ck_volume.specs.Volume.{history_of, table_of, mounts_of, blocks_of, layout_of, world_of}
+use Rattle.ck_volume.specs.declared.engine.Engine.{Engine}
+use Rattle.ck_volume.specs.Engine.{history_of, table_of, mounts_of, blocks_of, layout_of, world_of}
 use Rattle.ck_volume.proofs.SafeLemmas.{holds-recovers}
 use Rattle.ck_volume.proofs.CommittedLemmas.{leaves_start, leaves_step, leaves_now}
 
@@ -75,7 +75,7 @@ opened-holds layout t m law told found settled opened = record {
   table = sym opened.table;
 }
 
-module _ {D : Type 0} (old new : Meaning) (volume : Volume D) (law : Lawful old) (new_law : Lawful new) (reads : OnlyReads old new) (ours : IsOurs (table_of volume)) (allocated : IsAllocated (table_of volume) (blocks_of volume))
+module _ {D : Type 0} (old new : Meaning) (volume : Engine D) (law : Lawful old) (new_law : Lawful new) (reads : OnlyReads old new) (ours : IsOurs (table_of volume)) (allocated : IsAllocated (table_of volume) (blocks_of volume))
     (blocks : (table_of volume).blocks ≡ (layout_of volume).blocks) (records : (table_of volume).records ≡ (layout_of volume).records) (size : size_of (layout_of volume).blocks (layout_of volume).records ≤ old.size)
     (found : IsTrue old.tells → recovered_region old.shows ≡ OpensAt (layout_of volume)) (settled : Settled (layout_of volume) old) (synced : IsSynced old)
     (opened : IsTrue old.tells → IsOpenedTable (layout_of volume) old (table_of volume))
@@ -181,7 +181,7 @@ module _ (old mid : Meaning) (law : Lawful mid) (shows : mid.shows ≡ old.shows
   told_on : IsTrue old.tells → IsTrue mid.tells
   told_on told = subst IsTrue (sym first.tells) told
 
-  pub opened_after : {D : Type 0} (new : Meaning) (volume : Volume D) → IsOpened mid new volume → IsOpened old new volume
+  pub opened_after : {D : Type 0} (new : Meaning) (volume : Engine D) → IsOpened mid new volume → IsOpened old new volume
   opened_after new volume opened = record {
     begun = opened.begun;
     recovers = λ told. subst (λ x. Recovers x (world_of new.shows volume)) shows (opened.recovers (told_on told));

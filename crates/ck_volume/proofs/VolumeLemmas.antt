@@ -22,8 +22,8 @@ use Rattle.ck_volume.specs.Storing.{StoredOrSame, OnlyStores}
 use Rattle.ck_slots.specs.Committed.{Commits}
 use Rattle.ck_volume.specs.Telling.{limits_of}
 use Rattle.ck_volume.specs.declared.fault.Fault.{Fault}
-use Rattle.ck_volume.specs.declared.volume.Volume.{Volume}
-use Rattle.ck_volume.specs.Volume.{log_of, table_of, mounts_of, blocks_of, layout_of, data_of, world_of, IsWhole, KeepsWorld, GoesOn, GoesOnOrBreaks, Runs, IsAttempt}
+use Rattle.ck_volume.specs.declared.engine.Engine.{Engine}
+use Rattle.ck_volume.specs.Engine.{log_of, table_of, mounts_of, blocks_of, layout_of, data_of, world_of, IsWhole, KeepsWorld, GoesOn, GoesOnOrBreaks, Runs, IsAttempt}
 use Rattle.ck_volume.proofs.Allocated.{used_count}
 use Rattle.ck_volume.proofs.Worlds.{world_same}
 use Rattle.ck_volume.proofs.StoringLemmas.{stored-keeps}
@@ -36,7 +36,7 @@ on_ok_map P Q (Ok x) f p = f p
 on_ok_map P Q (Err e) f p = tt
 
 -- however it ends, it goes on
-pub goes_all : {D Y : Type 0} (old new : Meaning) (before after : Volume D) (r : Result Y Fault) → GoesOn old new before after → GoesOnOrBreaks old new before after r
+pub goes_all : {D Y : Type 0} (old new : Meaning) (before after : Engine D) (r : Result Y Fault) → GoesOn old new before after → GoesOnOrBreaks old new before after r
 goes_all old new before after (Ok y) goes = goes
 goes_all old new before after (Err why) goes = inr goes
 
@@ -68,7 +68,7 @@ own_files t u blocks files = record { ours = files.ours; allocated = files.alloc
 module _ {D : Type 0} where
   -- ---- no call of the device
 
-  pub quiet-attempt : (m : Meaning) (before after : Volume D) → Lawful m → log_of after ≡ log_of before → after.broken ≡ before.broken → IsAttempt m m before after
+  pub quiet-attempt : (m : Meaning) (before after : Engine D) → Lawful m → log_of after ≡ log_of before → after.broken ≡ before.broken → IsAttempt m m before after
   quiet-attempt m before after law log broken = record {
     runs = runs_same m;
     survives = λ told w keeps. leaves_either_start w (unmounted (world_of m.shows before)) (layout_of before) (blocks_of before) m law (inl keeps);
@@ -76,7 +76,7 @@ module _ {D : Type 0} where
     broken_stays = broken;
   }
 
-  pub quiet-goes : (m : Meaning) (before after : Volume D) → IsWhole m before → layout_of after ≡ layout_of before → AreFiles (limits_of (table_of before)) (table_of after) (blocks_of after)
+  pub quiet-goes : (m : Meaning) (before after : Engine D) → IsWhole m before → layout_of after ≡ layout_of before → AreFiles (limits_of (table_of before)) (table_of after) (blocks_of after)
       → KeepsBusy (blocks_of before) (blocks_of after) → GoesOn m m before after
   quiet-goes m before after whole layout files busy = record {
     whole = record {
@@ -91,7 +91,7 @@ module _ {D : Type 0} where
 
   -- ---- reads
 
-  pub reads-attempt : (old new : Meaning) (before after : Volume D) → Lawful old → OnlyReads old new → log_of after ≡ log_of before → after.broken ≡ before.broken → IsAttempt old new before after
+  pub reads-attempt : (old new : Meaning) (before after : Engine D) → Lawful old → OnlyReads old new → log_of after ≡ log_of before → after.broken ≡ before.broken → IsAttempt old new before after
   reads-attempt old new before after law reads log broken = record {
     runs = runs_step old old new (runs_same old) reads.step;
     survives = λ told w keeps.
@@ -102,7 +102,7 @@ module _ {D : Type 0} where
     broken_stays = broken;
   }
 
-  pub reads-goes : (old new : Meaning) (before after : Volume D) → IsWhole old before → OnlyReads old new → layout_of after ≡ layout_of before → table_of after ≡ table_of before → blocks_of after ≡ blocks_of before → GoesOn old new before after
+  pub reads-goes : (old new : Meaning) (before after : Engine D) → IsWhole old before → OnlyReads old new → layout_of after ≡ layout_of before → table_of after ≡ table_of before → blocks_of after ≡ blocks_of before → GoesOn old new before after
   reads-goes old new before after whole reads layout table blocks = record {
     whole = record {
       files = subst (λ (t : Table). AreFiles (limits_of t) t (blocks_of after)) (sym table) (subst (λ (b : Allocation). AreFiles (limits_of (table_of before)) (table_of before) b) (sym blocks) whole.files);
@@ -119,7 +119,7 @@ module _ {D : Type 0} where
 
   -- ---- stores, after a commit or none
 
-  pub stores-attempt : (old mid new : Meaning) (before middle after : Volume D) → IsAttempt old mid before middle → GoesOn old mid before middle → OnlyStores (data_of middle) (blocks_of middle) mid new
+  pub stores-attempt : (old mid new : Meaning) (before middle after : Engine D) → IsAttempt old mid before middle → GoesOn old mid before middle → OnlyStores (data_of middle) (blocks_of middle) mid new
       → log_of after ≡ log_of middle → after.broken ≡ middle.broken → IsAttempt old new before after
   stores-attempt old mid new before middle after attempt goes stores log broken = record {
     runs = runs_stores (data_of middle) (blocks_of middle) old mid new attempt.runs stores;
@@ -130,7 +130,7 @@ module _ {D : Type 0} where
     broken_stays = broken ∙ attempt.broken_stays;
   }
 
-  pub stores-goes : (old mid new : Meaning) (before middle after : Volume D) → IsAttempt old mid before middle → GoesOn old mid before middle → OnlyStores (data_of middle) (blocks_of middle) mid new
+  pub stores-goes : (old mid new : Meaning) (before middle after : Engine D) → IsAttempt old mid before middle → GoesOn old mid before middle → OnlyStores (data_of middle) (blocks_of middle) mid new
       → layout_of after ≡ layout_of middle → AreFiles (limits_of (table_of middle)) (table_of after) (blocks_of after) → KeepsBusy (blocks_of middle) (blocks_of after) → GoesOn old new before after
   stores-goes old mid new before middle after attempt goes stores layout files busy =
       let whole = goes.whole in
@@ -184,7 +184,7 @@ module _ {D : Type 0} where
           }
 
   -- the world stays, where the table does
-  pub stores-world : (mid new : Meaning) (middle after : Volume D) → IsTrue mid.tells → IsWhole mid middle → OnlyStores (data_of middle) (blocks_of middle) mid new
+  pub stores-world : (mid new : Meaning) (middle after : Engine D) → IsTrue mid.tells → IsWhole mid middle → OnlyStores (data_of middle) (blocks_of middle) mid new
       → layout_of after ≡ layout_of middle → table_of after ≡ table_of middle → mounts_of after ≡ mounts_of middle → world_of new.shows after ≡ world_of mid.shows middle
   stores-world mid new middle after told whole stores layout table mounts =
       let base = data_of middle in
@@ -195,7 +195,7 @@ module _ {D : Type 0} where
 
   -- ---- a commit
 
-  module _ (old new : Meaning) (before after : Volume D) (law : Lawful old) (whole : IsWhole old before) (AtTheEnd : Image → Type 0) (commits : Commits (layout_of before) (table_of before) old new AtTheEnd) where
+  module _ (old new : Meaning) (before after : Engine D) (law : Lawful old) (whole : IsWhole old before) (AtTheEnd : Image → Type 0) (commits : Commits (layout_of before) (table_of before) old new AtTheEnd) where
     abbrev ran : LeavesOnly old new (CommitLeaves (layout_of before) commits.after old)
     ran = commits.any_moment
 

@@ -6,17 +6,17 @@ use Rattle.ck_model.specs.World.{World, empty_world}
 use Rattle.ck_model.specs.Standing.{checkpoint_limit}
 use Rattle.ck_volume.specs.declared.format.FormatFault.{FormatFault}
 use Rattle.ck_volume.specs.declared.format.FormatFault.TheVariants as fault
-use Rattle.ck_volume.specs.declared.volume.Volume.{Volume}
+use Rattle.ck_volume.specs.declared.engine.Engine.{Engine}
 use Rattle.ck_volume.specs.Exact.{IsExact}
 use Rattle.ck_volume.specs.Opening.{IsBegun}
-use Rattle.ck_volume.specs.Volume.{world_of, KeepsWorld, Runs}
+use Rattle.ck_volume.specs.Engine.{world_of, KeepsWorld, Runs}
 
 -- the world of a new volume: the root directory alone
 abbrev pub new_world : ℕ → ℕ → World
 new_world blocks records = empty_world (record { blocks = blocks; records = records; checkpoints = checkpoint_limit })
 
 -- A new volume. Each image that a crash leaves has its world, and nothing beside it.
-pub record IsFormatted {D : Type 0} (blocks records : ℕ) (old new : Meaning) (volume : Volume D) : Type 0 where
+pub record IsFormatted {D : Type 0} (blocks records : ℕ) (old new : Meaning) (volume : Engine D) : Type 0 where
   pub begun : IsBegun new volume
   pub long : size_of blocks records ≤ old.size
   pub runs : Runs old new

@@ -17,8 +17,12 @@ pub mod Pieces
 pub mod Planning
 pub mod Committed
 pub mod Built
-pub mod Volume
+pub mod Engine
 pub mod Opening
 pub mod Exact
 pub mod Formatting
 pub mod Closing
+pub mod Causes
+pub mod Told
+pub mod Kept
+pub mod Volume

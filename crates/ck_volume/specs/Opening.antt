@@ -5,11 +5,11 @@ use Rattle.ck_disk.specs.Disk.{Meaning, LeavesOnly, Rose}
 use Rattle.ck_volume.specs.Recovering.{Recovery, NotVolume, BadFormat, Damaged, Finds, Recovers}
 use Rattle.ck_volume.specs.declared.open.OpenFault.{OpenFault}
 use Rattle.ck_volume.specs.declared.open.OpenFault.TheVariants as fault
-use Rattle.ck_volume.specs.declared.volume.Volume.{Volume}
-use Rattle.ck_volume.specs.Volume.{history_of, world_of, IsWhole, KeepsWorld}
+use Rattle.ck_volume.specs.declared.engine.Engine.{Engine}
+use Rattle.ck_volume.specs.Engine.{history_of, world_of, IsWhole, KeepsWorld}
 
 -- a volume at its beginning
-pub record IsBegun {D : Type 0} (m : Meaning) (volume : Volume D) : Type 0 where
+pub record IsBegun {D : Type 0} (m : Meaning) (volume : Engine D) : Type 0 where
   pub whole : IsWhole m volume
   pub history_is : history_of volume ≡ []
   pub unbroken : volume.broken ≡ None
@@ -17,7 +17,7 @@ pub record IsBegun {D : Type 0} (m : Meaning) (volume : Volume D) : Type 0 where
 
 -- Its world is what the device recovers to, and a crash leaves that. A crash while it is opened leaves what one at the
 -- beginning could leave.
-pub record IsOpened {D : Type 0} (old new : Meaning) (volume : Volume D) : Type 0 where
+pub record IsOpened {D : Type 0} (old new : Meaning) (volume : Engine D) : Type 0 where
   pub begun : IsBegun new volume
   pub recovers : IsTrue old.tells → Recovers old.shows (world_of new.shows volume)
   pub kept : IsTrue old.tells → KeepsWorld new volume (world_of new.shows volume)

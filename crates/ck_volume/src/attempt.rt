@@ -16,9 +16,11 @@ ghost use Rattle.ck_push.specs.Growth.{gains, losses, write_count};
 ghost use Rattle.ck_tree.specs.Plan.{IsChanging, IsPlan, changed_by};
 ghost use Rattle.ck_volume.specs.Room.{answered_with, has_room};
 ghost use Rattle.ck_volume.specs.Telling.{limits_of};
-ghost use Rattle.ck_volume.specs.Volume.{disk_of, table_of, mounts_of, blocks_of, layout_of, log_of, broken_of, world_of, IsWhole, KeepsWorld, GoesOnOrBreaks, IsAttempt, no_memory};
+ghost use Rattle.ck_volume.specs.Engine.{disk_of, table_of, mounts_of, blocks_of, layout_of, log_of, broken_of, world_of, IsWhole, KeepsWorld, GoesOnOrBreaks, IsAttempt, no_memory};
 ghost use Rattle.ck_volume.specs.Writing.{IsWritingFault};
 
+use crate::Fault;
+use crate::engine::Engine;
 use crate::freezing::create;
 use crate::mounting::{mount, umount};
 use crate::names::{cls, ls, stat};
@@ -27,12 +29,11 @@ use crate::reads::{cread, read};
 use crate::room::used;
 use crate::telling::{ckpts, info};
 use crate::writing::apply_planned;
-use crate::{Fault, Volume};
 use ck_disk::Disk;
 use ck_model::{Call, Change, NoMemory, Path, Reply};
 use std::alloc::Global;
 
-impl<D: Disk> Volume<D> {
+impl<D: Disk> Engine<D> {
     /// Makes a call's planned changes, with a commit before them where fewer data blocks are free
     /// than they write.
     fn change_planned(

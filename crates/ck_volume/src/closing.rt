@@ -4,9 +4,10 @@ ghost use Rattle.ck_model.specs.World.{World, unmounted};
 ghost use Rattle.ck_volume.specs.declared.closing.CommitAnswer.TheVariants as answer;
 ghost use Rattle.ck_volume.specs.Closing.{broken_after};
 ghost use Rattle.ck_volume.specs.Exact.{IsExact};
-ghost use Rattle.ck_volume.specs.Volume.{disk_of, history_of, room_of, length_of, broken_of, mounts_of, world_of, IsReady, KeepsWorld, Runs, Survives};
+ghost use Rattle.ck_volume.specs.Engine.{disk_of, history_of, room_of, length_of, broken_of, mounts_of, world_of, IsReady, KeepsWorld, Runs, Survives};
 
-use crate::{Fault, Volume};
+use crate::Fault;
+use crate::engine::Engine;
 use ck_disk::Disk;
 use ck_model::Entry;
 use std::alloc::Global;
@@ -30,7 +31,7 @@ pub struct Closed<D> {
     pub history: Vec<Entry>,
 }
 
-impl<D: Disk> Volume<D> {
+impl<D: Disk> Engine<D> {
     /// Commits the present world, which no call does but `sync`: a crash leaves it afterwards, without its mounts.
     pub fn commit(&mut self, alloc: Global) -> CommitAnswer
         requires ready { IsReady (D.means (disk_of self.old)) self.old }
@@ -77,7 +78,7 @@ impl<D: Disk> Volume<D> {
         ensures disk { result.disk ≡ disk_of self }
         ensures history { result.history.items ≡ history_of self }
     {
-        let Volume {
+        let Engine {
             slots: _,
             region: _,
             blocks: _,

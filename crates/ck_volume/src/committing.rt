@@ -5,10 +5,11 @@ ghost use Rattle.ck_model.specs.World.{World, unmounted};
 ghost use Rattle.ck_model.specs.Standing.{extent_count};
 ghost use Rattle.ck_volume.specs.declared.fault.Fault.TheVariants as fault;
 ghost use Rattle.ck_volume.specs.Telling.{limits_of};
-ghost use Rattle.ck_volume.specs.Volume.{disk_of, mounts_of, blocks_of, table_of, layout_of, data_of, world_of, IsWhole, KeepsWorld, GoesOnOrBreaks, IsAttempt};
+ghost use Rattle.ck_volume.specs.Engine.{disk_of, mounts_of, blocks_of, table_of, layout_of, data_of, world_of, IsWhole, KeepsWorld, GoesOnOrBreaks, IsAttempt};
 ghost use Rattle.ck_volume.specs.Writing.{IsWritingFault};
 
-use crate::{DataArea, Fault, Volume};
+use crate::engine::Engine;
+use crate::{DataArea, Fault};
 use ck_disk::Disk;
 use ck_model::Limits;
 use ck_slots::CommitFault;
@@ -17,7 +18,7 @@ use std::alloc::Global;
 /// So many checkpoints may stand.
 const CHECKPOINTS: u32 = 64;
 
-impl<D: Disk> Volume<D> {
+impl<D: Disk> Engine<D> {
     /// Where the data blocks stand.
     pub(crate) fn area(&self) -> DataArea
         ensures { result ≡ record { base = data_of self.now; blocks = (table_of self.now).blocks } }

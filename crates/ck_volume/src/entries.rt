@@ -1,11 +1,24 @@
 ghost use Rattle.std.specs.Prelude.{◌≡◌, ◌+◌, ◌^◌, ◌<◌, ◌≤◌, Some, IsOk, OnOk, OnErr, slice_get};
-ghost use Rattle.ck_volume.specs.Volume.{disk_of, history_of, room_of, length_of, KeepsAllButRoom};
+ghost use Rattle.ck_volume.specs.Causes.{is_sync, is_done, acknowledges};
+ghost use Rattle.ck_volume.specs.Engine.{disk_of, history_of, room_of, length_of, newest, KeepsAllButRoom};
 
-use crate::Volume;
+use crate::engine::Engine;
 use ck_disk::Disk;
-use ck_model::{Entry, NoMemory};
+use ck_model::{Call, Entry, NoMemory, Reply};
 
-impl<D: Disk> Volume<D> {
+fn is_sync(call: &Call) -> bool
+    ensures { result ≡ is_sync call.now }
+{
+    matches!(call, Call::Sync)
+}
+
+fn is_done(reply: &Reply) -> bool
+    ensures { result ≡ is_done reply.now }
+{
+    matches!(reply, Reply::Done)
+}
+
+impl<D: Disk> Engine<D> {
     /// Takes memory for so many calls more than it answered, unless there is room for them already.
     pub fn reserve(&mut self, calls: u32) -> Result<(), NoMemory>
         requires { length_of self.old + calls < 2 ^ 32 }
@@ -33,5 +46,13 @@ impl<D: Disk> Volume<D> {
         ensures { slice_get (history_of self.now) at ≡ Some result.now }
     {
         self.history.entry(at)
+    }
+
+    /// Whether this call, which was answered last, is a sync that was done.
+    pub fn acknowledged(&self, call: &Call) -> bool
+        requires { 0 < length_of self.now }
+        ensures { result ≡ acknowledges call.now (newest (history_of self.now)).reply }
+    {
+        is_sync(call) && is_done(&self.entry(self.length() - 1).reply)
     }
 }

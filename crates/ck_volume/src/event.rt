@@ -9,9 +9,10 @@ ghost use Rattle.ck_volume.specs.Built.{IsBuilt};
 ghost use Rattle.ck_volume.specs.Freezing.{Freezes};
 ghost use Rattle.ck_volume.specs.declared.event.Turn.TheVariants.{Answered};
 ghost use Rattle.ck_volume.specs.declared.event.Progress.TheVariants.{Fresh};
-ghost use Rattle.ck_volume.specs.Volume.{disk_of, table_of, log_of, history_of, room_of, length_of, broken_of, world_of, past_on, newest, Answers, IsWhole, IsReady, KeepsWorld, Runs, Survives, Follows, HasCause, IsEntryOf};
+ghost use Rattle.ck_volume.specs.Engine.{disk_of, table_of, log_of, history_of, room_of, length_of, broken_of, world_of, past_on, newest, Answers, IsWhole, IsReady, KeepsWorld, Runs, Survives, Follows, HasCause, IsEntryOf};
 
-use crate::{Fault, Volume};
+use crate::Fault;
+use crate::engine::Engine;
 use ck_disk::Disk;
 use ck_model::{Call, Entry, Reply};
 use std::alloc::Global;
@@ -42,7 +43,7 @@ fn entry_of(actor: u32, seq: u32, at: u64, reply: Reply) -> Entry
     }
 }
 
-impl<D: Disk> Volume<D> {
+impl<D: Disk> Engine<D> {
     /// The reply to an actor's call at a moment, on a volume that isn't broken. A failed write
     /// breaks it.
     fn answer(&mut self, alloc: Global, actor: u32, moment: u64, call: &Call) -> Reply

@@ -1,9 +1,9 @@
 ghost use Rattle.std.specs.Prelude.{IfOk, IfErr};
 ghost use Rattle.ck_log.specs.Layout.{IsSized};
 ghost use Rattle.ck_volume.specs.Formatting.{IsFormatted, IsFormatFault};
-ghost use Rattle.ck_volume.specs.Volume.{disk_of};
+ghost use Rattle.ck_volume.specs.Engine.{disk_of};
 
-use crate::Volume;
+use crate::engine::Engine;
 use crate::open::blocks_in;
 use ck_disk::Disk;
 use ck_history::History;
@@ -22,14 +22,14 @@ pub enum FormatFault<D> {
     NoMemory(D),
 }
 
-impl<D: Disk> Volume<D> {
+impl<D: Disk> Engine<D> {
     /// Makes a volume with so many data blocks and records on a device, over whatever stood there.
     pub fn format(
         alloc: Global,
         disk: D,
         blocks: u32,
         records: u32,
-    ) -> Result<Volume<D>, FormatFault<D>>
+    ) -> Result<Engine<D>, FormatFault<D>>
         requires { IsSized blocks records }
         ensures formatted { IfOk result (λ volume. IsFormatted blocks records (D.means disk) (D.means (disk_of volume)) volume) }
         ensures fault { IfErr result (IsFormatFault D.means blocks records disk) }
@@ -48,7 +48,7 @@ impl<D: Disk> Volume<D> {
         let Ok(blocks) = blocks_in(alloc, &slots) else {
             return Err(FormatFault::NoMemory(disk));
         };
-        Ok(Volume {
+        Ok(Engine {
             slots,
             region,
             blocks,

@@ -3,13 +3,16 @@
 
 mod applying;
 mod attempt;
+mod beginning;
 mod closing;
 mod committing;
+mod engine;
 mod entries;
 mod event;
 mod fault;
 mod format;
 mod freezing;
+mod keeping;
 mod mounting;
 mod names;
 mod open;
@@ -23,6 +26,7 @@ mod storing;
 mod telling;
 #[cfg(test)]
 mod tests;
+mod told;
 mod volume;
 mod writing;
 

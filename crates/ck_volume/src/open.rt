@@ -7,9 +7,9 @@ ghost use Rattle.ck_slots.specs.Slots.{table_in};
 ghost use Rattle.ck_volume.specs.Allocating.{IsAllocated};
 ghost use Rattle.ck_volume.specs.Opening.{IsOpened, IsOpenFault};
 ghost use Rattle.ck_volume.specs.Plain.{IsOurs};
-ghost use Rattle.ck_volume.specs.Volume.{disk_of, broken_of};
+ghost use Rattle.ck_volume.specs.Engine.{disk_of, broken_of};
 
-use crate::Volume;
+use crate::engine::Engine;
 use ck_alloc::Blocks;
 use ck_disk::Disk;
 use ck_history::History;
@@ -41,9 +41,9 @@ pub fn blocks_in(alloc: Global, slots: &Slots) -> Result<Blocks, NoMemory>
     Blocks::rebuild(alloc, slots.blocks(), &used)
 }
 
-impl<D: Disk> Volume<D> {
+impl<D: Disk> Engine<D> {
     /// The volume in a region that was just opened.
-    fn open_in(alloc: Global, region: Region, disk: D) -> Result<Volume<D>, OpenFault<D>>
+    fn open_in(alloc: Global, region: Region, disk: D) -> Result<Engine<D>, OpenFault<D>>
         requires size { size_of region.blocks region.records ≤ (D.means disk).size }
         requires found { IsTrue (D.means disk).tells → recovered_region (D.means disk).shows ≡ Opens region }
         requires settled { Settled region (D.means disk) }
@@ -64,7 +64,7 @@ impl<D: Disk> Volume<D> {
         let Ok(blocks) = blocks_in(alloc, &slots) else {
             return Err(OpenFault::NoMemory(disk));
         };
-        Ok(Volume {
+        Ok(Engine {
             slots,
             region,
             blocks,
@@ -76,7 +76,7 @@ impl<D: Disk> Volume<D> {
     }
 
     /// Opens the volume on a device, with the table that was committed last.
-    pub fn open(alloc: Global, disk: D) -> Result<Volume<D>, OpenFault<D>>
+    pub fn open(alloc: Global, disk: D) -> Result<Engine<D>, OpenFault<D>>
         ensures opened { IfOk result (λ volume. IsOpened (D.means disk) (D.means (disk_of volume)) volume) }
         ensures fault { IfErr result (IsOpenFault D.means (D.means disk)) }
     {
@@ -92,7 +92,7 @@ impl<D: Disk> Volume<D> {
             Err(OpenLog::WriteFault) => return Err(OpenFault::WriteFault(disk)),
             Err(OpenLog::NoMemory) => return Err(OpenFault::NoMemory(disk)),
         };
-        Volume::open_in(alloc, region, disk)
+        Engine::open_in(alloc, region, disk)
     }
 
     /// Whether a write of it has failed.

@@ -1,7 +1,6 @@
-ghost use Rattle.std.specs.Prelude.{◌≡◌, ◌+◌, ◌<◌, IfOk, OnOk};
-ghost use Rattle.ck_disk.specs.MemDisk.{meaning};
+ghost use Rattle.std.specs.Prelude.{◌≡◌, ◌+◌, ◌<◌, None, IfOk, OnOk};
 ghost use Rattle.ck_volume.specs.Built.{IsBuilt};
-ghost use Rattle.ck_volume.specs.Volume.{disk_of, length_of, IsReady};
+ghost use Rattle.ck_volume.specs.Volume.{length_of, spoilt_of};
 
 use crate::{CommitAnswer, FormatFault, OpenFault, Progress, Turn, Volume};
 use ck_disk::{MemDisk, NoMemory};
@@ -22,8 +21,8 @@ fn device(alloc: Global, blocks: u32, failing: u64) -> Result<MemDisk, NoMemory>
 
 /// A new volume on a device of which the call with this number fails.
 fn new_volume(alloc: Global, failing: u64) -> Result<Volume<MemDisk>, Fail>
-    ensures ready { IfOk result (λ volume. IsReady (meaning (disk_of volume)) volume) }
     ensures length { IfOk result (λ volume. length_of volume ≡ 0) }
+    ensures unspoilt { IfOk result (λ volume. spoilt_of volume ≡ None) }
 {
     let disk = device(alloc, NEEDED, failing)?;
     let Ok(volume) = Volume::format(alloc, disk, BLOCKS, RECORDS) else {
@@ -33,8 +32,8 @@ fn new_volume(alloc: Global, failing: u64) -> Result<Volume<MemDisk>, Fail>
 }
 
 fn opened(alloc: Global, disk: MemDisk) -> Result<Volume<MemDisk>, Fail>
-    ensures ready { IfOk result (λ volume. IsReady (meaning (disk_of volume)) volume) }
     ensures length { IfOk result (λ volume. length_of volume ≡ 0) }
+    ensures unspoilt { IfOk result (λ volume. spoilt_of volume ≡ None) }
 {
     let Ok(volume) = Volume::open(alloc, disk) else {
         return Err(Fail::from("not opened"));
@@ -68,10 +67,10 @@ fn read(alloc: Global) -> Result<Call, Fail>
 /// Answers a call on a volume that has answered few.
 fn answer(alloc: Global, volume: &mut Volume<MemDisk>, call: &Call) -> Result<(), Fail>
     requires built { IsBuilt call.now }
-    requires ready { IsReady (meaning (disk_of volume.old)) volume.old }
     requires few { length_of volume.old < 100 }
-    ensures ready { OnOk result (IsReady (meaning (disk_of volume.new)) volume.new) }
+    requires unspoilt { spoilt_of volume.old ≡ None }
     ensures length { OnOk result (length_of volume.new ≡ length_of volume.old + 1) }
+    ensures unspoilt { OnOk result (spoilt_of volume.new ≡ None) }
 {
     volume.reserve(1)?;
     let _turn: Turn = volume.event(alloc, 1, 1, 100, call, &mut Progress::Fresh);

@@ -1,22 +1,33 @@
-use ck_alloc::Blocks;
-use ck_history::History;
-use ck_log::Region;
-use ck_model::Mounts;
-use ck_slots::Slots;
+ghost use Rattle.std.specs.Prelude.{◌≡◌, ◌≤◌, None};
+ghost use Rattle.std.specs.Option.{option_or};
+ghost use Rattle.std.proofs.Props.{props};
+ghost use Rattle.ck_volume.specs.Causes.{HasCauses};
+ghost use Rattle.ck_volume.specs.Engine.{disk_of, history_of, length_of, broken_of, IsReady, Runs};
+ghost use Rattle.ck_volume.specs.Kept.{broken_by, Stands};
+ghost use Rattle.ck_volume.specs.Told.{told_of};
 
-/// A volume on a device: its table in memory, its data blocks on the device. Once a write of it
-/// has failed it is broken: it answers every further call so, and makes no call of the device any
-/// more.
+use crate::engine::Engine;
+use crate::told::Told;
+use ck_disk::Disk;
+use std::snapshot::Snapshot;
+
+/// A volume on a device. Once a write of it has failed it is broken: it answers every further call
+/// so, and makes no call of the device any more.
 #[derive(Drop)]
-pub struct Volume<D> {
-    pub(crate) slots: Slots,
-    /// Where the table is committed.
-    pub(crate) region: Region,
-    pub(crate) blocks: Blocks,
-    pub(crate) mounts: Mounts,
-    pub(crate) disk: D,
-    /// The calls that it answered.
-    pub(crate) history: History,
-    /// The number of the answer that told of the failed write, counted from 0.
-    pub(crate) broken: Option<u32>,
+pub struct Volume<D: Disk> {
+    pub(crate) engine: Engine<D>,
+    /// The device as it stood when it was opened or formatted.
+    pub(crate) origin: Snapshot<D>,
+    /// How many calls it had answered when a sync or a commit was done last, 0 before the first.
+    pub(crate) committed: Snapshot<u32>,
+    /// The calls of its entries.
+    pub(crate) told: Told,
+    /// After how many calls a commit broke it, where one did.
+    pub(crate) spoilt: Snapshot<Option<u32>>,
+    ghost ready: { ∥ IsReady (D.means (disk_of engine)) engine ∥₁ },
+    ghost later: { Runs (D.means origin.value) (D.means (disk_of engine)) },
+    ghost causes: { HasCauses (D.means origin.value) (D.means (disk_of engine)) (history_of engine) },
+    ghost breaks: { broken_of engine ≡ option_or (broken_by 0 None (history_of engine)) spoilt.value } by { Prim.hlevel props },
+    ghost stands: { ∥ Stands (D.means origin.value) (D.means (disk_of engine)) (told_of told) engine ∥₁ },
+    ghost within: { committed.value ≤ length_of engine },
 }

@@ -19,7 +19,7 @@ pub loop-line-init : goal.loop-line-init
 loop-line-init g c =
     let lines = c.items-lines.result.now in
     let clock = g.C.Clock.means c.args.clock.now in
-    let m : Meaning = g.D.Disk.means c.args.volume.now.disk in
+    let m : Meaning = g.D.Disk.means c.args.volume.now.engine.disk in
     let volume = c.args.volume.now in
     let w : World = world_of m.shows volume in
     let past : past_on m.shows volume ≡ begun w = λ i. record { world = w; length = length (c.requires.begun.history_is i); broken = c.requires.begun.unbroken i } in
@@ -27,8 +27,8 @@ loop-line-init g c =
     let none : [] ≡ history_of volume = sym c.requires.begun.history_is in
     record {
       so_far = subst (λ history. IsSoFar lines clock w m m 0 (past_on m.shows volume) history) none (started lines clock w m (past_on m.shows volume) past);
-      safe = subst (λ history. IsSafeSoFar (call_at (calls_in lines)) w m m history volume) none (safe_begins (call_at (calls_in lines)) w m volume (g.met.D.Disk.lawful volume.disk) bare c.requires.kept);
-      ready = λ unbroken. c.requires.begun.whole;
+      safe = subst (λ history. IsSafeSoFar (call_at (calls_in lines)) w m m history volume) none (safe_begins (call_at (calls_in lines)) w m volume (g.met.D.Disk.lawful volume.engine.disk) bare c.requires.kept);
+      unspoilt = c.requires.unspoilt;
       clock = refl;
       room = subst (λ (lines : List Line). length lines ≤ 0 + room_of volume) (sym c.items-lines.ensures) (omega (arith, c.requires.room));
     }
@@ -44,9 +44,9 @@ loop-line-preserved g c =
     let after = history_of c.event.new.self in
     let entry = newest after in
     let added : after ≡ history ++ entry ∷ [] = c.event.ensures.added in
-    let old : Meaning = g.D.Disk.means c.args.volume.now.disk in
-    let mid : Meaning = g.D.Disk.means c.loop-line.volume.disk in
-    let new : Meaning = g.D.Disk.means c.event.new.self.disk in
+    let old : Meaning = g.D.Disk.means c.args.volume.now.engine.disk in
+    let mid : Meaning = g.D.Disk.means c.loop-line.volume.engine.disk in
+    let new : Meaning = g.D.Disk.means c.event.new.self.engine.disk in
     let w : World = world_of old.shows c.args.volume.now in
     let past : Past = past_on mid.shows c.loop-line.volume in
     let next : Past = past_on new.shows c.event.new.self in
@@ -82,7 +82,7 @@ loop-line-preserved g c =
     record {
       so_far = subst (λ (es : List Entry). IsSoFar lines clock w old new (at + 1) next es) (sym added) (subst (λ at. IsSoFar lines clock w old new at next (history ++ entry ∷ [])) more so_far);
       safe = subst (λ (es : List Entry). IsSafeSoFar calls w old new es c.event.new.self) (sym added) safe;
-      ready = event.ready;
+      unspoilt = event.spoilt ∙ c.loop-line.invariant.unspoilt;
       clock = c.now.ensures.unchanged ∙ c.loop-line.invariant.clock;
       room = omega (arith, event.room, c.loop-line.invariant.room);
     }
@@ -91,8 +91,8 @@ pub returns-clause-play : goal.returns-clause-play
 returns-clause-play g c =
     let lines = c.items-lines.result.now in
     let clock = g.C.Clock.means c.args.clock.now in
-    let old : Meaning = g.D.Disk.means c.args.volume.now.disk in
-    let now : Meaning = g.D.Disk.means c.loop-line.volume.disk in
+    let old : Meaning = g.D.Disk.means c.args.volume.now.engine.disk in
+    let now : Meaning = g.D.Disk.means c.loop-line.volume.engine.disk in
     let w : World = world_of old.shows c.args.volume.now in
     let numbered : IsNumbered lines = subst IsNumbered (sym c.items-lines.ensures) c.args.script.now.numbered in
     subst (λ lines. IsPlay (calls_in lines) clock w old now (history_of c.loop-line.volume)) c.items-lines.ensures
@@ -101,13 +101,12 @@ returns-clause-play g c =
 pub returns-clause-leaves : goal.returns-clause-leaves
 returns-clause-leaves g c =
     let lines = c.items-lines.result.now in
-    let old : Meaning = g.D.Disk.means c.args.volume.now.disk in
-    let now : Meaning = g.D.Disk.means c.loop-line.volume.disk in
+    let old : Meaning = g.D.Disk.means c.args.volume.now.engine.disk in
+    let now : Meaning = g.D.Disk.means c.loop-line.volume.engine.disk in
     let w : World = world_of old.shows c.args.volume.now in
     let inv = c.loop-line.invariant in
     subst (λ lines. LeavesVolume (call_at (calls_in lines)) w old now (history_of c.loop-line.volume) c.loop-line.volume) c.items-lines.ensures
     (record {
-      ready = inv.ready;
       stands = λ told texts. sym (ap (λ (p : Past). p.world) (inv.so_far.leads told texts));
       any_moment = inv.safe.any_moment;
       at_the_end = inv.safe.at_the_end;

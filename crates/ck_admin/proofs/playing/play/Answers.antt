@@ -3,9 +3,8 @@ use Rattle.ck_model.specs.declared.entry.Entry.{Entry}
 use Rattle.ck_model.specs.History.{call_at}
 use Rattle.ck_script.specs.declared.line.Line.{Line}
 use Rattle.ck_script.specs.Numbered.{calls_in}
-use Rattle.ck_volume.specs.declared.volume.Volume.{Volume}
 use Rattle.ck_volume.specs.Volume.{disk_of, history_of, length_of, world_of}
-use Rattle.ck_volume.proofs.Reserved.{begun-reserved, kept-reserved}
+use Rattle.ck_volume.proofs.Reserved.{begun-reserved, kept-reserved, shown-reserved}
 use Rattle.ck_admin.specs.Crash.{LeavesVolume}
 use Rattle.ck_admin.specs.Play.{IsPlay}
 use Rattle.ck_admin.proofs.playing.play.Goals as goal
@@ -25,11 +24,13 @@ answer_all-requires-clause-kept g c = kept-reserved g.D.Disk.means c.args.volume
 pub returns-clause-play : goal.returns-clause-play
 returns-clause-play g c =
     let after = c.answer_all.new.volume in
-    subst (λ (v : Volume g.row.D.Denot). IsPlay (calls_in c.args.script.now.calls) (g.C.Clock.means c.args.clock.now) (world_of (g.D.Disk.means (disk_of v)).shows v) (g.D.Disk.means (disk_of v)) (g.D.Disk.means (disk_of after)) (history_of after))
-    c.reserve.ensures.rest.rest c.answer_all.ensures.play
+    shown-reserved g.D.Disk.means c.args.volume.now c.reserve.new.self c.reserve.ensures.rest
+    (λ disk shown. IsPlay (calls_in c.args.script.now.calls) (g.C.Clock.means c.args.clock.now) (shown (g.D.Disk.means disk).shows) (g.D.Disk.means disk) (g.D.Disk.means (disk_of after)) (history_of after))
+    c.answer_all.ensures.play
 
 pub returns-clause-leaves : goal.returns-clause-leaves
 returns-clause-leaves g c =
     let after = c.answer_all.new.volume in
-    subst (λ (v : Volume g.row.D.Denot). LeavesVolume (call_at (calls_in c.args.script.now.calls)) (world_of (g.D.Disk.means (disk_of v)).shows v) (g.D.Disk.means (disk_of v)) (g.D.Disk.means (disk_of after)) (history_of after) after)
-    c.reserve.ensures.rest.rest c.answer_all.ensures.leaves
+    shown-reserved g.D.Disk.means c.args.volume.now c.reserve.new.self c.reserve.ensures.rest
+    (λ disk shown. LeavesVolume (call_at (calls_in c.args.script.now.calls)) (shown (g.D.Disk.means disk).shows) (g.D.Disk.means disk) (g.D.Disk.means (disk_of after)) (history_of after) after)
+    c.answer_all.ensures.leaves

@@ -1,10 +1,64 @@
-use Rattle.ck_model.specs.World.{unmounted}
-use Rattle.ck_volume.specs.Volume.{world_of}
-use Rattle.ck_volume.proofs.KeptLaws.{kept-exact}
+use Rattle.std.proofs.Common.{◌≡◌, ◌≤◌, ℕ, List, None, length, sym, ap, subst, ◌∙◌}
+use Rattle.std.specs.Option.{option_or}
+use mathlib.Core.Logic.{∥∥₁_map}
+use Rattle.ck_model.specs.declared.entry.Entry.{Entry}
+use Rattle.ck_volume.specs.Causes.{HasCauses}
+use Rattle.ck_volume.specs.Closing.{broken_after, committed_after, spoilt_after}
+use Rattle.ck_volume.specs.Engine.{disk_of, history_of, broken_of}
+use Rattle.ck_volume.specs.Kept.{broken_by}
+use Rattle.ck_volume.specs.Told.{told_of}
+use Rattle.ck_volume.proofs.CausesLemmas.{causes-still, runs-more}
+use Rattle.ck_volume.proofs.StandsLemmas.{breaks-commit, within-commit, stands-still}
+use Rattle.ck_volume.proofs.StoodLemmas.{stood}
+use Rattle.ck_volume.proofs.Untruncated.{untruncated}
 use Rattle.ck_volume.proofs.volume.Volume.commit.Goals as goal
 
-pub returns-in-Ok-clause-exact : goal.returns-in-Ok-clause-exact
-returns-in-Ok-clause-exact g c = λ done told w keeps image left.
-    let after = c.commit_table.new.self in
-    let new = g.D.Disk.means after.disk in
-    kept-exact new after (unmounted (world_of new.shows after)) (c.in-Ok.ensures.committed told w keeps) image left
+pub commit-answer-requires : goal.commit-answer-requires
+commit-answer-requires g c =
+    let volume = c.args.self.now in
+    record { ready = untruncated (g.D.Disk.means (disk_of volume.engine)) volume.engine volume.ready }
+
+pub invariant_of-self : goal.invariant_of-self
+invariant_of-self g c =
+    let means = g.D.Disk.means in
+    let volume = c.args.self.now in
+    let after = c.commit-answer.new.self in
+    let answer = c.commit-answer.result in
+    let commit = c.commit-answer.ensures in
+    let origin = means volume.origin.value in
+    let mid = means (disk_of volume.engine) in
+    let new = means (disk_of after) in
+    let old : List Entry = history_of volume.engine in
+    let history : history_of after ≡ old = commit.history in
+    let many : c.length-answered.result ≡ length old = c.length-answered.ensures ∙ ap (λ (h : List Entry). length h) history in
+    let spoilt = c.note_spoilt.new.spoilt.value in
+    let noted : spoilt ≡ spoilt_after (length old) volume.spoilt.value answer = c.note_spoilt.ensures ∙ ap (λ (n : ℕ). spoilt_after n volume.spoilt.value answer) many in
+    let counted : c.note_commit.new.committed.value ≡ committed_after (length old) volume.committed.value answer = c.note_commit.ensures ∙ ap (λ (n : ℕ). committed_after n volume.committed.value answer) many in
+    let broken : broken_of after ≡ option_or (broken_by 0 None old) spoilt =
+    commit.broken
+    ∙ breaks-commit (broken_by 0 None old) volume.spoilt.value (broken_of volume.engine) (length old) answer volume.breaks commit.refused
+    ∙ ap (λ o. option_or (broken_by 0 None old) o) (sym noted) in
+    let within : c.note_commit.new.committed.value ≤ length old = subst (λ (n : ℕ). n ≤ length old) (sym counted) (within-commit volume.committed.value (length old) answer volume.within) in
+    record {
+      ready = ∣ commit.ready ∣₁;
+      later = runs-more origin mid new volume.later commit.runs;
+      causes = subst (λ (h : List Entry). HasCauses origin new h) (sym history) (causes-still origin mid new old volume.causes commit.runs);
+      breaks = subst (λ (h : List Entry). broken_of after ≡ option_or (broken_by 0 None h) spoilt) (sym history) broken;
+      stands = ∥∥₁_map volume.stands (λ stands. stands-still origin mid new (told_of volume.told) volume.engine after stands volume.later.tells history commit.world);
+      within = subst (λ (h : List Entry). c.note_commit.new.committed.value ≤ length h) (sym history) within;
+    }
+
+pub returns-clause-stands : goal.returns-clause-stands
+returns-clause-stands g c =
+    let means = g.D.Disk.means in
+    let volume = c.args.self.now in
+    let after = c.commit-answer.new.self in
+    let origin = means volume.origin.value in
+    let mid = means (disk_of volume.engine) in
+    stands-still origin mid (means (disk_of after)) (told_of volume.told) volume.engine after (stood origin mid (told_of volume.told) volume.engine volume.stands) volume.later.tells c.commit-answer.ensures.history c.commit-answer.ensures.world
+
+pub returns-clause-committed_entries : goal.returns-clause-committed_entries
+returns-clause-committed_entries g c = c.note_commit.ensures ∙ ap (λ (n : ℕ). committed_after n c.args.self.now.committed.value c.commit-answer.result) c.length-answered.ensures
+
+pub returns-clause-spoilt : goal.returns-clause-spoilt
+returns-clause-spoilt g c = c.note_spoilt.ensures ∙ ap (λ (n : ℕ). spoilt_after n c.args.self.now.spoilt.value c.commit-answer.result) c.length-answered.ensures

@@ -1,155 +1,81 @@
-use Rattle.std.proofs.Common.{◌≡◌, ℕ, ◌∷◌, ◌++◌, [], Option, Some, None, MatchOption, IsSome, if◌then◌else◌, false, sym, ap, subst, ◌∙◌, rules}
-use Rattle.std.specs.Option.{option_or}
-use mathlib.Core.Bool.{false≢true}
-use Rattle.ck_history.specs.History.{entries_of}
-use Rattle.ck_history.specs.declared.history.History.{History}
+use Rattle.std.proofs.Common.{◌≡◌, ◌≤◌, ℕ, ◌+◌, ◌++◌, ◌∷◌, [], None, List, length, sym, subst, ◌∙◌, arith}
+use mathlib.Core.Logic.{∥∥₁_map}
 use Rattle.ck_model.specs.declared.entry.Entry.{Entry}
-use Rattle.ck_model.specs.declared.reply.Reply.{Reply}
-use Rattle.ck_model.specs.declared.reply.Reply.TheVariants.{Broken}
-use Rattle.ck_model.specs.World.{World}
-use Rattle.ck_model.specs.History.{created_id, is_fault, is_write_fault, is_broken}
-use Rattle.ck_volume.specs.Volume.{HasCause, history_of, length_of, newest, world_of}
-use Rattle.ck_volume.proofs.Following.{newest-put, added-put, longer-put, is-entry, broken-cause, broken-put, answered-put}
+use Rattle.ck_volume.specs.Causes.{HasCauses}
+use Rattle.ck_volume.specs.Engine.{disk_of, history_of, broken_of, newest}
+use Rattle.ck_volume.specs.Kept.{broken_by}
+use Rattle.ck_volume.specs.Told.{told_of}
+use Rattle.ck_volume.proofs.CausesLemmas.{causes-more, runs-more}
+use Rattle.ck_volume.proofs.Following.{longer-put}
+use Rattle.ck_volume.proofs.StandsLemmas.{by-entry, or-entry, broken-goes, stands-told}
+use Rattle.ck_volume.proofs.StoodLemmas.{stood}
+use Rattle.ck_volume.proofs.Untruncated.{untruncated}
 use Rattle.ck_volume.proofs.volume.Volume.event.Goals as goal
 
--- ---- on a broken volume
+pub event-turn-requires-clause-ready : goal.event-turn-requires-clause-ready
+event-turn-requires-clause-ready g c =
+    let volume = c.args.self.now in
+    untruncated (g.D.Disk.means (disk_of volume.engine)) volume.engine volume.ready
 
-pub returns-in-Some-clause-added : goal.returns-in-Some-clause-added
-returns-in-Some-clause-added g c =
-    let before = history_of c.args.self.now in
-    let after = entries_of c.put.new.self in
-    let put : after ≡ before ++ c.entry_of.result ∷ [] = c.put.ensures.entries in
-    added-put before after c.entry_of.result put
+pub invariant_of-self : goal.invariant_of-self
+invariant_of-self g c =
+    let means = g.D.Disk.means in
+    let volume = c.args.self.now in
+    let after = c.event-turn.new.self in
+    let origin = means volume.origin.value in
+    let mid = means (disk_of volume.engine) in
+    let new = means (disk_of after) in
+    let event = c.event-turn.ensures in
+    let old : List Entry = history_of volume.engine in
+    let entry = newest (history_of after) in
+    let was : broken_of volume.engine ≡ broken_by 0 None old = by-entry (broken_by 0 None old) volume.spoilt.value (broken_of volume.engine) volume.breaks c.requires.unspoilt in
+    let broken : broken_of after ≡ broken_by 0 None (history_of after) = broken-goes old (history_of after) entry (broken_of volume.engine) (broken_of after) was event.added event.broken in
+    let now : c.of.result.value ≡ length (history_of after) = c.of.ensures ∙ c.length.ensures in
+    record {
+      ready = ∣ event.ready ∣₁;
+      later = runs-more origin mid new volume.later event.runs;
+      causes = subst (λ (h : List Entry). HasCauses origin new h) (sym event.added) (causes-more origin mid new old entry volume.causes event.runs event.cause);
+      breaks = or-entry (broken_by 0 None (history_of after)) volume.spoilt.value (broken_of after) broken c.requires.unspoilt;
+      stands = ∥∥₁_map volume.stands
+          (λ stands. stands-told origin mid new (told_of volume.told) (told_of c.more.result) volume.engine after c.args.call.now entry c.args.actor c.args.seq c.args.at stands c.more.ensures volume.later.tells event.added event.entry event.follows was broken);
+      within = omega (arith, now);
+    }
 
-pub returns-in-Some-clause-entry : goal.returns-in-Some-clause-entry
-returns-in-Some-clause-entry g c =
-    let before = history_of c.args.self.now in
-    let after = entries_of c.put.new.self in
-    let put : after ≡ before ++ c.entry_of.result ∷ [] = c.put.ensures.entries in
-    let same : newest after ≡ c.entry_of.result = newest-put before after c.entry_of.result put in
-    is-entry c.args.actor c.args.seq c.args.at (Broken c.in-Some.entry) (newest after) (same ∙ c.entry_of.ensures)
+pub invariant_of-self-else-acknowledged : goal.invariant_of-self-else-acknowledged
+invariant_of-self-else-acknowledged g c =
+    let means = g.D.Disk.means in
+    let volume = c.args.self.now in
+    let after = c.event-turn.new.self in
+    let origin = means volume.origin.value in
+    let mid = means (disk_of volume.engine) in
+    let new = means (disk_of after) in
+    let event = c.event-turn.ensures in
+    let old : List Entry = history_of volume.engine in
+    let entry = newest (history_of after) in
+    let was : broken_of volume.engine ≡ broken_by 0 None old = by-entry (broken_by 0 None old) volume.spoilt.value (broken_of volume.engine) volume.breaks c.requires.unspoilt in
+    let broken : broken_of after ≡ broken_by 0 None (history_of after) = broken-goes old (history_of after) entry (broken_of volume.engine) (broken_of after) was event.added event.broken in
+    let longer : length (history_of after) ≡ length old + 1 = longer-put old (history_of after) entry event.added in
+    record {
+      ready = ∣ event.ready ∣₁;
+      later = runs-more origin mid new volume.later event.runs;
+      causes = subst (λ (h : List Entry). HasCauses origin new h) (sym event.added) (causes-more origin mid new old entry volume.causes event.runs event.cause);
+      breaks = or-entry (broken_by 0 None (history_of after)) volume.spoilt.value (broken_of after) broken c.requires.unspoilt;
+      stands = ∥∥₁_map volume.stands
+          (λ stands. stands-told origin mid new (told_of volume.told) (told_of c.more.result) volume.engine after c.args.call.now entry c.args.actor c.args.seq c.args.at stands c.more.ensures volume.later.tells event.added event.entry event.follows was broken);
+      within = omega (arith, longer, volume.within);
+    }
 
-pub returns-in-Some-clause-follows : goal.returns-in-Some-clause-follows
-returns-in-Some-clause-follows g c = λ told texts calls is_call.
-    let before = history_of c.args.self.now in
-    let after = entries_of c.put.new.self in
-    let put : after ≡ before ++ c.entry_of.result ∷ [] = c.put.ensures.entries in
-    let same : newest after ≡ c.entry_of.result = newest-put before after c.entry_of.result put in
-    let w : World = world_of (g.D.Disk.means c.args.self.now.disk).shows c.args.self.now in
-    broken-put texts calls w (length_of c.args.self.now) c.args.actor c.args.seq c.args.at c.args.call.now is_call c.args.self.now.broken c.in-Some.entry _ (newest after) c.in-Some.is (longer-put before after c.entry_of.result put) (same ∙ c.entry_of.ensures)
-
-pub returns-in-Some-clause-refused : goal.returns-in-Some-clause-refused
-returns-in-Some-clause-refused g c =
-    let before = history_of c.args.self.now in
-    let after = entries_of c.put.new.self in
-    let put : after ≡ before ++ c.entry_of.result ∷ [] = c.put.ensures.entries in
-    let same : newest after ≡ c.entry_of.result = newest-put before after c.entry_of.result put in
-    let replied : (newest after).reply ≡ Broken c.in-Some.entry = ap (λ (e : Entry). e.reply) (same ∙ c.entry_of.ensures) in
-    subst (λ (o : Option ℕ). MatchOption o (is_broken (newest after).reply ≡ false) (λ number. (newest after).reply ≡ Broken number)) (sym c.in-Some.is) replied
-
-pub returns-in-Some-clause-cause : goal.returns-in-Some-clause-cause
-returns-in-Some-clause-cause g c =
-    let before = history_of c.args.self.now in
-    let after = entries_of c.put.new.self in
-    let put : after ≡ before ++ c.entry_of.result ∷ [] = c.put.ensures.entries in
-    let same : newest after ≡ c.entry_of.result = newest-put before after c.entry_of.result put in
-    let replied : (newest after).reply ≡ Broken c.in-Some.entry = ap (λ (e : Entry). e.reply) (same ∙ c.entry_of.ensures) in
-    broken-cause (g.D.Disk.means c.args.self.now.disk) c.in-Some.entry (newest after).reply replied
-
-pub returns-in-Some-clause-synced : goal.returns-in-Some-clause-synced
-returns-in-Some-clause-synced g c = λ is_sync ordinary told w keeps.
-    let before = history_of c.args.self.now in
-    let after = entries_of c.put.new.self in
-    let put : after ≡ before ++ c.entry_of.result ∷ [] = c.put.ensures.entries in
-    let same : newest after ≡ c.entry_of.result = newest-put before after c.entry_of.result put in
-    let replied : (newest after).reply ≡ Broken c.in-Some.entry = ap (λ (e : Entry). e.reply) (same ∙ c.entry_of.ensures) in
-    absurd (false≢true (sym ordinary ∙ ap is_fault replied))
-
-pub returns-in-Some-clause-freezes : goal.returns-in-Some-clause-freezes
-returns-in-Some-clause-freezes g c = λ name nodata removable is_create created.
-    let before = history_of c.args.self.now in
-    let after = entries_of c.put.new.self in
-    let put : after ≡ before ++ c.entry_of.result ∷ [] = c.put.ensures.entries in
-    let same : newest after ≡ c.entry_of.result = newest-put before after c.entry_of.result put in
-    let replied : (newest after).reply ≡ Broken c.in-Some.entry = ap (λ (e : Entry). e.reply) (same ∙ c.entry_of.ensures) in
-    absurd (false≢true (subst IsSome (ap created_id replied) created))
-
--- ---- where it was answered
-
-pub returns-clause-added : goal.returns-clause-added
-returns-clause-added g c =
-    let before = history_of c.args.self.now in
-    let after = entries_of c.put-2.new.self in
-    let put : after ≡ before ++ c.entry_of-2.result ∷ [] = c.put-2.ensures.entries ∙ ap (λ (h : History). entries_of h ++ c.entry_of-2.result ∷ []) c.answer-reply.ensures.log in
-    added-put before after c.entry_of-2.result put
-
-pub returns-clause-entry : goal.returns-clause-entry
-returns-clause-entry g c =
-    let before = history_of c.args.self.now in
-    let after = entries_of c.put-2.new.self in
-    let put : after ≡ before ++ c.entry_of-2.result ∷ [] = c.put-2.ensures.entries ∙ ap (λ (h : History). entries_of h ++ c.entry_of-2.result ∷ []) c.answer-reply.ensures.log in
-    let same : newest after ≡ c.entry_of-2.result = newest-put before after c.entry_of-2.result put in
-    is-entry c.args.actor c.args.seq c.args.at c.answer-reply.result (newest after) (same ∙ c.entry_of-2.ensures)
-
-pub returns-clause-follows : goal.returns-clause-follows
-returns-clause-follows g c = λ told texts calls is_call.
-    let unbroken : c.args.self.now.broken ≡ None = search rules in
-    let before = history_of c.args.self.now in
-    let after = entries_of c.put-2.new.self in
-    let put : after ≡ before ++ c.entry_of-2.result ∷ [] = c.put-2.ensures.entries ∙ ap (λ (h : History). entries_of h ++ c.entry_of-2.result ∷ []) c.answer-reply.ensures.log in
-    let same : newest after ≡ c.entry_of-2.result = newest-put before after c.entry_of-2.result put in
-    let w : World = world_of (g.D.Disk.means c.args.self.now.disk).shows c.args.self.now in
-    let next : World = world_of (g.D.Disk.means c.answer-reply.new.self.disk).shows c.answer-reply.new.self in
-    answered-put texts calls w (length_of c.args.self.now) c.args.actor c.args.seq c.args.at c.args.call.now is_call c.args.self.now.broken c.answer-reply.new.self.broken _ (newest after) c.answer-reply.result next
-    unbroken c.answer-reply.ensures.broken (longer-put before after c.entry_of-2.result put) (same ∙ c.entry_of-2.ensures) (c.answer-reply.ensures.answers told texts) c.answer-reply.ensures.not_refused
-
-pub returns-clause-broken : goal.returns-clause-broken
-returns-clause-broken g c =
-    let unbroken : c.args.self.now.broken ≡ None = search rules in
-    let before = history_of c.args.self.now in
-    let after = entries_of c.put-2.new.self in
-    let put : after ≡ before ++ c.entry_of-2.result ∷ [] = c.put-2.ensures.entries ∙ ap (λ (h : History). entries_of h ++ c.entry_of-2.result ∷ []) c.answer-reply.ensures.log in
-    let same : newest after ≡ c.entry_of-2.result = newest-put before after c.entry_of-2.result put in
-    let replied : (newest after).reply ≡ c.answer-reply.result = ap (λ (e : Entry). e.reply) (same ∙ c.entry_of-2.ensures) in
-    c.answer-reply.ensures.broken
-    ∙ ap (λ (reply : Reply). if is_write_fault reply then Some (length_of c.args.self.now) else None) (sym replied)
-    ∙ ap (λ (o : Option ℕ). option_or o (if is_write_fault (newest after).reply then Some (length_of c.args.self.now) else None)) (sym unbroken)
-
-pub returns-clause-refused : goal.returns-clause-refused
-returns-clause-refused g c =
-    let unbroken : c.args.self.now.broken ≡ None = search rules in
-    let before = history_of c.args.self.now in
-    let after = entries_of c.put-2.new.self in
-    let put : after ≡ before ++ c.entry_of-2.result ∷ [] = c.put-2.ensures.entries ∙ ap (λ (h : History). entries_of h ++ c.entry_of-2.result ∷ []) c.answer-reply.ensures.log in
-    let same : newest after ≡ c.entry_of-2.result = newest-put before after c.entry_of-2.result put in
-    let replied : (newest after).reply ≡ c.answer-reply.result = ap (λ (e : Entry). e.reply) (same ∙ c.entry_of-2.ensures) in
-    subst (λ (o : Option ℕ). MatchOption o (is_broken (newest after).reply ≡ false) (λ number. (newest after).reply ≡ Broken number)) (sym unbroken)
-    (ap is_broken replied ∙ c.answer-reply.ensures.not_refused)
-
-pub returns-clause-cause : goal.returns-clause-cause
-returns-clause-cause g c =
-    let before = history_of c.args.self.now in
-    let after = entries_of c.put-2.new.self in
-    let put : after ≡ before ++ c.entry_of-2.result ∷ [] = c.put-2.ensures.entries ∙ ap (λ (h : History). entries_of h ++ c.entry_of-2.result ∷ []) c.answer-reply.ensures.log in
-    let same : newest after ≡ c.entry_of-2.result = newest-put before after c.entry_of-2.result put in
-    let replied : (newest after).reply ≡ c.answer-reply.result = ap (λ (e : Entry). e.reply) (same ∙ c.entry_of-2.ensures) in
-    subst (HasCause (g.D.Disk.means c.args.self.now.disk) (g.D.Disk.means c.answer-reply.new.self.disk)) (sym replied) c.answer-reply.ensures.cause
-
-pub returns-clause-synced : goal.returns-clause-synced
-returns-clause-synced g c = λ is_sync ordinary told w keeps.
-    let before = history_of c.args.self.now in
-    let after = entries_of c.put-2.new.self in
-    let put : after ≡ before ++ c.entry_of-2.result ∷ [] = c.put-2.ensures.entries ∙ ap (λ (h : History). entries_of h ++ c.entry_of-2.result ∷ []) c.answer-reply.ensures.log in
-    let same : newest after ≡ c.entry_of-2.result = newest-put before after c.entry_of-2.result put in
-    let replied : (newest after).reply ≡ c.answer-reply.result = ap (λ (e : Entry). e.reply) (same ∙ c.entry_of-2.ensures) in
-    let keeps_after = c.answer-reply.ensures.synced is_sync (sym (ap is_fault replied) ∙ ordinary) told w keeps in
-    record { table = keeps_after.table; committed = keeps_after.committed }
-
-pub returns-clause-freezes : goal.returns-clause-freezes
-returns-clause-freezes g c = λ name nodata removable is_create created.
-    let before = history_of c.args.self.now in
-    let after = entries_of c.put-2.new.self in
-    let put : after ≡ before ++ c.entry_of-2.result ∷ [] = c.put-2.ensures.entries ∙ ap (λ (h : History). entries_of h ++ c.entry_of-2.result ∷ []) c.answer-reply.ensures.log in
-    let same : newest after ≡ c.entry_of-2.result = newest-put before after c.entry_of-2.result put in
-    let replied : (newest after).reply ≡ c.answer-reply.result = ap (λ (e : Entry). e.reply) (same ∙ c.entry_of-2.ensures) in
-    c.answer-reply.ensures.freezes name nodata removable is_create (subst IsSome (ap created_id replied) created)
+pub returns-clause-stands : goal.returns-clause-stands
+returns-clause-stands g c =
+    let means = g.D.Disk.means in
+    let volume = c.args.self.now in
+    let after = c.event-turn.new.self in
+    let origin = means volume.origin.value in
+    let mid = means (disk_of volume.engine) in
+    let event = c.event-turn.ensures in
+    let old : List Entry = history_of volume.engine in
+    let entry = newest (history_of after) in
+    let was : broken_of volume.engine ≡ broken_by 0 None old = by-entry (broken_by 0 None old) volume.spoilt.value (broken_of volume.engine) volume.breaks c.requires.unspoilt in
+    let broken : broken_of after ≡ broken_by 0 None (history_of after) = broken-goes old (history_of after) entry (broken_of volume.engine) (broken_of after) was event.added event.broken in
+    stands-told origin mid (means (disk_of after)) (told_of volume.told) (told_of c.more.result) volume.engine after c.args.call.now entry c.args.actor c.args.seq c.args.at
+    (stood origin mid (told_of volume.told) volume.engine volume.stands) c.more.ensures volume.later.tells event.added event.entry event.follows was broken

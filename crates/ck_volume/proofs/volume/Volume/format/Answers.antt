@@ -1,23 +1,8 @@
-use Rattle.std.proofs.Common.{refl}
-use Rattle.ck_log.specs.FirstTable.{new_layout, FormatLeaves}
-use Rattle.ck_slots.specs.Slots.{table_in}
-use Rattle.ck_volume.specs.Plain.{IsOurs}
-use Rattle.ck_volume.proofs.FormatLemmas.{plain_new, runs_of, volume-formatted}
+use Rattle.ck_volume.specs.Engine.{disk_of}
+use Rattle.ck_volume.proofs.StandsLemmas.{formatted-recovers}
 use Rattle.ck_volume.proofs.volume.Volume.format.Goals as goal
 
-pub blocks_in-requires : goal.blocks_in-requires
-blocks_in-requires g c =
-    let slots = c.in-Ok-format.slots in
-    let e = c.in-Ok-format.ensures in
-    record { lawful = slots.within_limits; sized = slots.fits; sound = e.sound; plain = plain_new _ _ (table_in slots) e.table }
-
-pub returns-clause-formatted : goal.returns-clause-formatted
-returns-clause-formatted g c =
-    let slots = c.in-Ok-format.slots in
-    let e = c.in-Ok-format.ensures in
-    let r = c.in-Ok.ensures in
-    let ours : IsOurs (table_in slots) = record { lawful = slots.within_limits; sized = slots.fits; sound = e.sound; plain = plain_new _ _ (table_in slots) e.table } in
-    let old = g.D.Disk.means c.args.disk in
-    let new = g.D.Disk.means c.format.new.disk in
-    volume-formatted c.args.blocks c.args.records old new _ (g.met.D.Disk.lawful c.format.new.disk) (runs_of old new (FormatLeaves (new_layout c.args.blocks c.args.records) old) r.any_moment)
-    r.region e.table ours c.in-Ok-blocks_in.ensures e.world e.written r.size r.volume r.table r.settled r.synced c.new-2.ensures.entries refl c.new.ensures
+pub begun-requires-clause-recovers : goal.begun-requires-clause-recovers
+begun-requires-clause-recovers g c =
+    let engine = c.in_ok-engine.engine in
+    formatted-recovers c.args.blocks c.args.records (g.D.Disk.means c.args.disk) (g.D.Disk.means (disk_of engine)) engine (g.met.D.Disk.lawful (disk_of engine)) c.in_ok-engine.ensures.formatted

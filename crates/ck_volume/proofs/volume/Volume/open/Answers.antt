@@ -1,16 +1,8 @@
-use Rattle.ck_volume.specs.Volume.{disk_of}
-use Rattle.ck_volume.proofs.Ordinary.{if_ok_map}
-use Rattle.ck_volume.proofs.OpenLemmas.{opened_after, fault_after, if_err_map}
+use Rattle.ck_volume.specs.Engine.{disk_of}
+use Rattle.ck_volume.proofs.StandsLemmas.{opened-recovers}
 use Rattle.ck_volume.proofs.volume.Volume.open.Goals as goal
 
-pub returns-clause-opened : goal.returns-clause-opened
-returns-clause-opened g c =
-    if_ok_map _ _ c.open_in.result
-    (λ volume opened. opened_after (g.D.Disk.means c.args.disk) (g.D.Disk.means c.open_on.new.disk) (g.met.D.Disk.lawful c.open_on.new.disk) c.open_on.ensures.shows c.open_on.ensures.any_moment (g.D.Disk.means (disk_of volume)) volume opened)
-    c.open_in.ensures.opened
-
-pub returns-clause-fault : goal.returns-clause-fault
-returns-clause-fault g c =
-    if_err_map _ _ c.open_in.result
-    (λ why is. fault_after (g.D.Disk.means c.args.disk) (g.D.Disk.means c.open_on.new.disk) (g.met.D.Disk.lawful c.open_on.new.disk) c.open_on.ensures.shows c.open_on.ensures.any_moment g.D.Disk.means why is)
-    c.open_in.ensures.fault
+pub begun-requires-clause-recovers : goal.begun-requires-clause-recovers
+begun-requires-clause-recovers g c =
+    let engine = c.in_ok-engine.engine in
+    opened-recovers (g.D.Disk.means c.args.disk) (g.D.Disk.means (disk_of engine)) engine (g.met.D.Disk.lawful (disk_of engine)) c.in_ok-engine.ensures.opened

@@ -1,0 +1,25 @@
+use Rattle.std.proofs.Common.{◌≡◌, ◌≤◌, ℕ, [], None, List, length, refl, sym, ap, subst, ◌∙◌, arith}
+use Rattle.ck_model.specs.declared.entry.Entry.{Entry}
+use Rattle.ck_volume.specs.Causes.{HasCauses}
+use Rattle.ck_volume.specs.Engine.{disk_of, history_of, broken_of, Runs}
+use Rattle.ck_volume.specs.Kept.{broken_by, Stands}
+use Rattle.ck_volume.proofs.CausesLemmas.{runs-none, causes-none}
+use Rattle.ck_volume.proofs.StandsLemmas.{or-entry, stands-begins}
+use Rattle.ck_volume.proofs.beginning.begun.Goals as goal
+
+pub invariant_of-result : goal.invariant_of-result
+invariant_of-result g c =
+    let means = g.D.Disk.means in
+    let engine = c.args.engine in
+    let m = means (disk_of engine) in
+    let origin : c.of.result.value ≡ disk_of engine = c.of.ensures in
+    let none : history_of engine ≡ [] = c.requires.none in
+    let unbroken : broken_of engine ≡ broken_by 0 None (history_of engine) = c.requires.unbroken ∙ sym (ap (λ (h : List Entry). broken_by 0 None h) none) in
+    record {
+      ready = ∣ c.requires.ready ∣₁;
+      later = subst (λ (d : g.row.D.Denot). Runs (means d) m) (sym origin) (runs-none m);
+      causes = subst (λ (d : g.row.D.Denot). HasCauses (means d) m (history_of engine)) (sym origin) (subst (λ (h : List Entry). HasCauses m m h) (sym none) (causes-none m));
+      breaks = or-entry (broken_by 0 None (history_of engine)) c.of-3.result.value (broken_of engine) unbroken c.of-3.ensures;
+      stands = subst (λ (d : g.row.D.Denot). ∥ Stands (means d) m [] engine ∥₁) (sym origin) ∣ stands-begins m engine none c.requires.recovers ∣₁;
+      within = omega (arith, c.of-2.ensures);
+    }

@@ -1,0 +1,26 @@
+-- What a volume keeps of its history.
+use Rattle.std.specs.Prelude.{◌≡◌, ℕ, ◌+◌, List, [], ◌∷◌, Option, Some, None, IsTrue, if◌then◌else◌}
+use Rattle.std.specs.Option.{option_or}
+use Rattle.ck_disk.specs.Disk.{Meaning}
+use Rattle.ck_model.specs.declared.call.Call.{Call}
+use Rattle.ck_model.specs.declared.entry.Entry.{Entry}
+use Rattle.ck_model.specs.Streams.{Texts}
+use Rattle.ck_model.specs.World.{World}
+use Rattle.ck_model.specs.History.{CallsBy, IsLegal, begun, past_of, is_write_fault}
+use Rattle.ck_volume.specs.declared.engine.Engine.{Engine}
+use Rattle.ck_volume.specs.Engine.{history_of, length_of, world_of}
+use Rattle.ck_volume.specs.Recovering.{Recovers}
+use Rattle.ck_volume.specs.Told.{AreAnswered}
+
+-- the number of the entry that broke the volume, where one did, once these entries follow with numbers from this one on
+abbrev pub broken_by : ℕ → Option ℕ → List Entry → Option ℕ
+broken_by number broken [] = broken
+broken_by number broken (entry ∷ entries) = broken_by (number + 1) (option_or broken (if is_write_fault entry.reply then Some number else None)) entries
+
+-- Where the device tells what it holds, the history is legal from the world that the origin recovers to, and leads to the
+-- present one, whatever the texts of streams are.
+abbrev pub Stands : {D : Type 0} → Meaning → Meaning → List Call → Engine D → Type 0
+Stands origin now told volume =
+    IsTrue origin.tells → (w : World) → Recovers origin.shows w → (texts : Texts) (calls : CallsBy) → AreAnswered calls told (history_of volume)
+    → IsLegal texts calls w (history_of volume)
+    × (past_of texts calls (begun w) (history_of volume) ≡ record { world = world_of now.shows volume; length = length_of volume; broken = broken_by 0 None (history_of volume) })
