@@ -1,5 +1,5 @@
 -- A history that stands, from the beginning on.
-use Rattle.std.proofs.Common.{◌≡◌, ℕ, ◌+◌, ◌≤◌, Option, Some, None, IsTrue, List, [], ◌∷◌, ◌++◌, length, if◌then◌else◌, refl, sym, ap, subst, ◌∙◌, arith}
+use Rattle.std.proofs.Common.{◌≡◌, ℕ, ◌+◌, ◌≤◌, Bool, true, false, Option, Some, None, IsTrue, List, [], ◌∷◌, ◌++◌, length, if◌then◌else◌, refl, sym, ap, subst, ◌∙◌, arith}
 use Rattle.std.specs.Option.{option_or}
 use Rattle.ck_disk.specs.Disk.{Meaning, Lawful}
 use Rattle.ck_model.specs.declared.call.Call.{Call}
@@ -75,6 +75,10 @@ within-commit committed length answer.Done within = omega arith
 within-commit committed length answer.WriteFault within = within
 within-commit committed length (answer.Broken number) within = within
 within-commit committed length answer.NoMemory within = within
+
+pub within-event : (committed now before after : ℕ) (synced : Bool) → committed ≤ before → after ≡ before + 1 → now ≡ (if synced then after else committed) → now ≤ after
+within-event committed now before after true within longer is = omega (arith, is)
+within-event committed now before after false within longer is = omega (arith, is, longer, within)
 
 -- ---- where it stands
 

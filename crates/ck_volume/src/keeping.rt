@@ -36,6 +36,15 @@ fn note_commit(committed: &mut Snapshot<u32>, answered: u32, answer: CommitAnswe
     }
 }
 
+/// Notes how many calls a sync has committed, after so many that were answered.
+fn note_sync(committed: &mut Snapshot<u32>, answered: u32, synced: bool)
+    ensures { committed.new.value ≡ (if synced then answered else committed.old.value) }
+{
+    if synced {
+        *committed = Snapshot::of(&answered);
+    }
+}
+
 /// Notes after how many calls a commit broke the volume, where it did.
 fn note_spoilt(spoilt: &mut Snapshot<Option<u32>>, answered: u32, answer: CommitAnswer)
     ensures { spoilt.new.value ≡ spoilt_after answered spoilt.old.value answer }
@@ -150,9 +159,9 @@ impl<D: Disk> Volume<D> {
     {
         let turn = self.engine.event(alloc, actor, seq, at, call, progress);
         self.told = self.told.more(call);
-        if self.engine.acknowledged(call) {
-            self.committed = Snapshot::of(&self.engine.length());
-        }
+        let synced = self.engine.acknowledged(call);
+        let answered = self.engine.length();
+        note_sync(&mut self.committed, answered, synced);
         turn
     }
 

@@ -64,17 +64,29 @@ fn read(alloc: Global) -> Result<Call, Fail>
     Ok(Call::Read(file(alloc)?, 0, 9))
 }
 
-/// Answers a call on a volume that has answered few.
-fn answer(alloc: Global, volume: &mut Volume<MemDisk>, call: &Call) -> Result<(), Fail>
+/// The volume, of few calls, after one call more.
+fn answered(
+    alloc: Global,
+    volume: Volume<MemDisk>,
+    call: &Call,
+) -> Result<Volume<MemDisk>, Fail>
     requires built { IsBuilt call.now }
-    requires few { length_of volume.old < 100 }
-    requires unspoilt { spoilt_of volume.old ≡ None }
-    ensures length { OnOk result (length_of volume.new ≡ length_of volume.old + 1) }
-    ensures unspoilt { OnOk result (spoilt_of volume.new ≡ None) }
+    requires few { length_of volume < 100 }
+    requires unspoilt { spoilt_of volume ≡ None }
+    ensures length { IfOk result (λ after. length_of after ≡ length_of volume + 1) }
+    ensures unspoilt { IfOk result (λ after. spoilt_of after ≡ None) }
 {
+    let mut volume = volume;
     volume.reserve(1)?;
     let _turn: Turn = volume.event(alloc, 1, 1, 100, call, &mut Progress::Fresh);
-    Ok(())
+    Ok(volume)
+}
+
+/// The device after a commit, and what the commit answered.
+fn committed(alloc: Global, volume: Volume<MemDisk>) -> (MemDisk, CommitAnswer) {
+    let mut volume = volume;
+    let answer = volume.commit(alloc);
+    (volume.close().disk, answer)
 }
 
 /// The reply to the call that was answered last.
@@ -84,40 +96,35 @@ fn reply(volume: &Volume<MemDisk>) -> &Reply
     &volume.entry(volume.length() - 1).reply
 }
 
+/// Whether the file, read again from the device, has these bytes.
+fn has_again(alloc: Global, disk: MemDisk, bytes: &[u8]) -> Result<bool, Fail> {
+    let volume = answered(alloc, opened(alloc, disk)?, &read(alloc)?)?;
+    Ok(matches!(reply(&volume), Reply::Bytes(found) if found.items() == bytes))
+}
+
 #[test]
 fn what_was_committed_is_opened(rt: HostRuntime) -> Result<(), Fail> {
     let alloc = rt.alloc();
-    let mut volume = new_volume(alloc, 0)?;
-    answer(alloc, &mut volume, &make(alloc)?)?;
-    let made = reply(&volume);
-    assert!(rt; matches!(made, Reply::Done));
-    answer(alloc, &mut volume, &Call::Sync)?;
-    let synced = reply(&volume);
-    assert!(rt; matches!(synced, Reply::Done));
-    answer(alloc, &mut volume, &write(alloc)?)?;
-    let written = reply(&volume);
-    assert!(rt; matches!(written, Reply::Done));
-    assert_eq!(rt; volume.commit(alloc), CommitAnswer::Done);
-
-    let mut again = opened(alloc, volume.close().disk)?;
-    answer(alloc, &mut again, &read(alloc)?)?;
-    let read_back = reply(&again);
-    assert!(rt; matches!(read_back, Reply::Bytes(bytes) if bytes.items() == b"hello".as_slice()));
+    let volume = answered(alloc, new_volume(alloc, 0)?, &make(alloc)?)?;
+    assert!(rt; matches!(reply(&volume), Reply::Done));
+    let volume = answered(alloc, volume, &Call::Sync)?;
+    assert!(rt; matches!(reply(&volume), Reply::Done));
+    let volume = answered(alloc, volume, &write(alloc)?)?;
+    assert!(rt; matches!(reply(&volume), Reply::Done));
+    let (disk, answer) = committed(alloc, volume);
+    assert_eq!(rt; answer, CommitAnswer::Done);
+    assert!(rt; has_again(alloc, disk, b"hello".as_slice())?);
     Ok(())
 }
 
 #[test]
 fn what_was_not_committed_is_gone(rt: HostRuntime) -> Result<(), Fail> {
     let alloc = rt.alloc();
-    let mut volume = new_volume(alloc, 0)?;
-    answer(alloc, &mut volume, &make(alloc)?)?;
-    let made = reply(&volume);
-    assert!(rt; matches!(made, Reply::Done));
+    let volume = answered(alloc, new_volume(alloc, 0)?, &make(alloc)?)?;
+    assert!(rt; matches!(reply(&volume), Reply::Done));
 
-    let mut again = opened(alloc, volume.close().disk)?;
-    answer(alloc, &mut again, &read(alloc)?)?;
-    let read_back = reply(&again);
-    assert!(rt; matches!(read_back, Reply::NotFound));
+    let again = answered(alloc, opened(alloc, volume.close().disk)?, &read(alloc)?)?;
+    assert!(rt; matches!(reply(&again), Reply::NotFound));
     Ok(())
 }
 
@@ -135,19 +142,15 @@ fn says_why_there_is_no_volume(rt: HostRuntime) -> Result<(), Fail> {
 fn a_failed_write_breaks_it(rt: HostRuntime) -> Result<(), Fail> {
     let alloc = rt.alloc();
     // It is formatted with 13 calls of the device, and making a file takes none.
-    let mut volume = new_volume(alloc, 14)?;
-    answer(alloc, &mut volume, &make(alloc)?)?;
-    let made = reply(&volume);
-    assert!(rt; matches!(made, Reply::Done) && !volume.is_broken());
-    answer(alloc, &mut volume, &write(alloc)?)?;
-    let written = reply(&volume);
-    assert!(rt; matches!(written, Reply::WriteFault) && volume.is_broken());
-    answer(alloc, &mut volume, &read(alloc)?)?;
-    let left = reply(&volume);
-    assert!(rt; matches!(left, Reply::Broken(1)));
-    answer(alloc, &mut volume, &Call::Sync)?;
-    let synced = reply(&volume);
-    assert!(rt; matches!(synced, Reply::Broken(1)));
-    assert_eq!(rt; volume.commit(alloc), CommitAnswer::Broken(1));
+    let volume = answered(alloc, new_volume(alloc, 14)?, &make(alloc)?)?;
+    assert!(rt; matches!(reply(&volume), Reply::Done) && !volume.is_broken());
+    let volume = answered(alloc, volume, &write(alloc)?)?;
+    assert!(rt; matches!(reply(&volume), Reply::WriteFault) && volume.is_broken());
+    let volume = answered(alloc, volume, &read(alloc)?)?;
+    assert!(rt; matches!(reply(&volume), Reply::Broken(1)));
+    let volume = answered(alloc, volume, &Call::Sync)?;
+    assert!(rt; matches!(reply(&volume), Reply::Broken(1)));
+    let (_, answer) = committed(alloc, volume);
+    assert_eq!(rt; answer, CommitAnswer::Broken(1));
     Ok(())
 }

@@ -1,13 +1,13 @@
-use Rattle.std.proofs.Common.{◌≡◌, ◌≤◌, ℕ, ◌+◌, ◌++◌, ◌∷◌, [], None, List, length, sym, subst, ◌∙◌, arith}
+use Rattle.std.proofs.Common.{◌≡◌, ℕ, ◌+◌, ◌++◌, ◌∷◌, [], Bool, None, List, length, if◌then◌else◌, sym, ap, subst, ◌∙◌}
 use mathlib.Core.Logic.{∥∥₁_map}
 use Rattle.ck_model.specs.declared.entry.Entry.{Entry}
-use Rattle.ck_volume.specs.Causes.{HasCauses}
+use Rattle.ck_volume.specs.Causes.{HasCauses, acknowledges}
 use Rattle.ck_volume.specs.Engine.{disk_of, history_of, broken_of, newest}
 use Rattle.ck_volume.specs.Kept.{broken_by}
 use Rattle.ck_volume.specs.Told.{told_of}
 use Rattle.ck_volume.proofs.CausesLemmas.{causes-more, runs-more}
 use Rattle.ck_volume.proofs.Following.{longer-put}
-use Rattle.ck_volume.proofs.StandsLemmas.{by-entry, or-entry, broken-goes, stands-told}
+use Rattle.ck_volume.proofs.StandsLemmas.{by-entry, or-entry, broken-goes, within-event, stands-told}
 use Rattle.ck_volume.proofs.StoodLemmas.{stood}
 use Rattle.ck_volume.proofs.Untruncated.{untruncated}
 use Rattle.ck_volume.proofs.volume.Volume.event.Goals as goal
@@ -30,7 +30,10 @@ invariant_of-self g c =
     let entry = newest (history_of after) in
     let was : broken_of volume.engine ≡ broken_by 0 None old = by-entry (broken_by 0 None old) volume.spoilt.value (broken_of volume.engine) volume.breaks c.requires.unspoilt in
     let broken : broken_of after ≡ broken_by 0 None (history_of after) = broken-goes old (history_of after) entry (broken_of volume.engine) (broken_of after) was event.added event.broken in
-    let now : c.of.result.value ≡ length (history_of after) = c.of.ensures ∙ c.length.ensures in
+    let longer : length (history_of after) ≡ length old + 1 = longer-put old (history_of after) entry event.added in
+    let committed = c.note_sync.new.committed.value in
+    let now : committed ≡ (if c.acknowledged.result then length (history_of after) else volume.committed.value) =
+        subst (λ (n : ℕ). committed ≡ (if c.acknowledged.result then n else volume.committed.value)) c.length.ensures c.note_sync.ensures in
     record {
       ready = ∣ event.ready ∣₁;
       later = runs-more origin mid new volume.later event.runs;
@@ -38,32 +41,16 @@ invariant_of-self g c =
       breaks = or-entry (broken_by 0 None (history_of after)) volume.spoilt.value (broken_of after) broken c.requires.unspoilt;
       stands = ∥∥₁_map volume.stands
           (λ stands. stands-told origin mid new (told_of volume.told) (told_of c.more.result) volume.engine after c.args.call.now entry c.args.actor c.args.seq c.args.at stands c.more.ensures volume.later.tells event.added event.entry event.follows was broken);
-      within = omega (arith, now);
+      within = within-event volume.committed.value committed (length old) (length (history_of after)) c.acknowledged.result volume.within longer now;
     }
 
-pub invariant_of-self-else-acknowledged : goal.invariant_of-self-else-acknowledged
-invariant_of-self-else-acknowledged g c =
-    let means = g.D.Disk.means in
-    let volume = c.args.self.now in
+pub returns-clause-committed : goal.returns-clause-committed
+returns-clause-committed g c =
+    let old = c.args.self.now.committed.value in
     let after = c.event-turn.new.self in
-    let origin = means volume.origin.value in
-    let mid = means (disk_of volume.engine) in
-    let new = means (disk_of after) in
-    let event = c.event-turn.ensures in
-    let old : List Entry = history_of volume.engine in
-    let entry = newest (history_of after) in
-    let was : broken_of volume.engine ≡ broken_by 0 None old = by-entry (broken_by 0 None old) volume.spoilt.value (broken_of volume.engine) volume.breaks c.requires.unspoilt in
-    let broken : broken_of after ≡ broken_by 0 None (history_of after) = broken-goes old (history_of after) entry (broken_of volume.engine) (broken_of after) was event.added event.broken in
-    let longer : length (history_of after) ≡ length old + 1 = longer-put old (history_of after) entry event.added in
-    record {
-      ready = ∣ event.ready ∣₁;
-      later = runs-more origin mid new volume.later event.runs;
-      causes = subst (λ (h : List Entry). HasCauses origin new h) (sym event.added) (causes-more origin mid new old entry volume.causes event.runs event.cause);
-      breaks = or-entry (broken_by 0 None (history_of after)) volume.spoilt.value (broken_of after) broken c.requires.unspoilt;
-      stands = ∥∥₁_map volume.stands
-          (λ stands. stands-told origin mid new (told_of volume.told) (told_of c.more.result) volume.engine after c.args.call.now entry c.args.actor c.args.seq c.args.at stands c.more.ensures volume.later.tells event.added event.entry event.follows was broken);
-      within = omega (arith, longer, volume.within);
-    }
+    c.note_sync.ensures
+    ∙ ap (λ (b : Bool). if b then c.length.result else old) c.acknowledged.ensures
+    ∙ ap (λ (n : ℕ). if acknowledges c.args.call.now (newest (history_of after)).reply then n else old) c.length.ensures
 
 pub returns-clause-stands : goal.returns-clause-stands
 returns-clause-stands g c =
