@@ -32,8 +32,8 @@ invariant_of-self g c =
     let broken : broken_of after ≡ broken_by 0 None (history_of after) = broken-goes old (history_of after) entry (broken_of volume.engine) (broken_of after) was event.added event.broken in
     let longer : length (history_of after) ≡ length old + 1 = longer-put old (history_of after) entry event.added in
     let committed = c.note_sync.new.committed.value in
-    let now : committed ≡ (if c.acknowledged.result then length (history_of after) else volume.committed.value) =
-        subst (λ (n : ℕ). committed ≡ (if c.acknowledged.result then n else volume.committed.value)) c.length.ensures c.note_sync.ensures in
+    let now : committed ≡ (if c.acknowledged-synced.result then length (history_of after) else volume.committed.value) =
+        subst (λ (n : ℕ). committed ≡ (if c.acknowledged-synced.result then n else volume.committed.value)) c.length-answered.ensures c.note_sync.ensures in
     record {
       ready = ∣ event.ready ∣₁;
       later = runs-more origin mid new volume.later event.runs;
@@ -41,7 +41,7 @@ invariant_of-self g c =
       breaks = or-entry (broken_by 0 None (history_of after)) volume.spoilt.value (broken_of after) broken c.requires.unspoilt;
       stands = ∥∥₁_map volume.stands
           (λ stands. stands-told origin mid new (told_of volume.told) (told_of c.more.result) volume.engine after c.args.call.now entry c.args.actor c.args.seq c.args.at stands c.more.ensures volume.later.tells event.added event.entry event.follows was broken);
-      within = within-event volume.committed.value committed (length old) (length (history_of after)) c.acknowledged.result volume.within longer now;
+      within = within-event volume.committed.value committed (length old) (length (history_of after)) c.acknowledged-synced.result volume.within longer now;
     }
 
 pub returns-clause-committed : goal.returns-clause-committed
@@ -49,8 +49,8 @@ returns-clause-committed g c =
     let old = c.args.self.now.committed.value in
     let after = c.event-turn.new.self in
     c.note_sync.ensures
-    ∙ ap (λ (b : Bool). if b then c.length.result else old) c.acknowledged.ensures
-    ∙ ap (λ (n : ℕ). if acknowledges c.args.call.now (newest (history_of after)).reply then n else old) c.length.ensures
+    ∙ ap (λ (b : Bool). if b then c.length-answered.result else old) c.acknowledged-synced.ensures
+    ∙ ap (λ (n : ℕ). if acknowledges c.args.call.now (newest (history_of after)).reply then n else old) c.length-answered.ensures
 
 pub returns-clause-stands : goal.returns-clause-stands
 returns-clause-stands g c =
