@@ -1,5 +1,5 @@
 -- A volume whose room alone may differ.
-use Rattle.std.proofs.Common.{◌≡◌, IsTrue, ap, subst, sym, ◌∙◌}
+use Rattle.std.proofs.Common.{IsTrue, subst, sym, ◌∙◌}
 use Rattle.ck_disk.specs.Disk.{Image, Meaning}
 use Rattle.ck_disk.specs.declared.disk.Disk.{Ghosts}
 use Rattle.ck_model.specs.World.{World}

@@ -6,12 +6,12 @@ use Rattle.ck_model.specs.declared.call.Call.{Call}
 use Rattle.ck_model.specs.declared.entry.Entry.{Entry}
 use Rattle.ck_model.specs.Streams.{Texts}
 use Rattle.ck_model.specs.World.{World}
-use Rattle.ck_model.specs.History.{Past, CallsBy, IsLegal, begun, past_of, is_write_fault}
+use Rattle.ck_model.specs.History.{CallsBy, IsLegal, begun, past_of, is_write_fault}
 use Rattle.ck_volume.specs.declared.closing.CommitAnswer.{CommitAnswer}
 use Rattle.ck_volume.specs.declared.closing.CommitAnswer.TheVariants as answer
 use Rattle.ck_volume.specs.declared.engine.Engine.{Engine}
 use Rattle.ck_volume.specs.Closing.{broken_after, committed_after, spoilt_after}
-use Rattle.ck_volume.specs.Engine.{history_of, length_of, broken_of, world_of, past_on, Follows, IsEntryOf}
+use Rattle.ck_volume.specs.Engine.{history_of, broken_of, world_of, past_on, Follows, IsEntryOf}
 use Rattle.ck_volume.specs.Formatting.{IsFormatted, new_world}
 use Rattle.ck_volume.specs.Kept.{broken_by, Stands}
 use Rattle.ck_volume.specs.Opening.{IsOpened}

@@ -1,5 +1,5 @@
 -- Where it is known that a history stands, but not in which way, it stands: it does in one way at most.
-use Rattle.std.proofs.Common.{◌≡◌, ◌≤◌, ℕ, Bool, true, false, Option, List, [], ◌∷◌, IsTrue, refl}
+use Rattle.std.proofs.Common.{◌≡◌, ℕ, Bool, Option, List, [], ◌∷◌, refl}
 use Rattle.std.specs.Coded.{×_prop, Coded, Coded-set, code_by, coded×, coded_ℕ, coded_bool, coded_list, coded_option}
 use Rattle.std.specs.FinMap as map
 use Rattle.std.proofs.Props.{props}
@@ -21,9 +21,8 @@ use Rattle.ck_model.specs.Cells.{Cells}
 use Rattle.ck_model.specs.Step.{Outcome}
 use Rattle.ck_model.specs.Streams.{Texts}
 use Rattle.ck_model.specs.World.{World, Checkpoint, Mounts}
-use Rattle.ck_model.specs.History.{Past, CallsBy, IsStepOf, IsRefusal, IsLegalAt, IsLegalWhole, IsLegalNext, IsLegalFrom, begun, past_after, past_of}
+use Rattle.ck_model.specs.History.{Past, CallsBy, IsStepOf, IsRefusal, IsLegalAt, IsLegalWhole, IsLegalNext, IsLegalFrom, past_after}
 use Rattle.ck_volume.specs.declared.engine.Engine.{Engine}
-use Rattle.ck_volume.specs.Engine.{history_of}
 use Rattle.ck_volume.specs.Kept.{Stands}
 
 -- ---- a past is one of a set

@@ -1,10 +1,10 @@
 -- A history and its calls, one entry after another.
-use Rattle.std.proofs.Common.{◌≡◌, ℕ, Option, List, [], ◌∷◌, ◌++◌, Some, refl, sym, ap, subst, ◌∙◌}
+use Rattle.std.proofs.Common.{◌≡◌, List, [], ◌∷◌, ◌++◌, Some, sym, ap, subst, ◌∙◌}
 use Rattle.ck_model.specs.declared.call.Call.{Call}
 use Rattle.ck_model.specs.declared.entry.Entry.{Entry}
 use Rattle.ck_model.specs.Streams.{Texts}
 use Rattle.ck_model.specs.World.{World}
-use Rattle.ck_model.specs.History.{Past, CallsBy, begun, past_of, past_after, IsLegal, IsLegalNext, IsLegalFrom}
+use Rattle.ck_model.specs.History.{Past, CallsBy, begun, past_of, past_after, IsLegal, IsLegalNext}
 use Rattle.ck_model.proofs.HistoryLemmas.{past_of-append, IsLegalFrom-append}
 use Rattle.ck_volume.specs.Told.{AreAnswered}
 

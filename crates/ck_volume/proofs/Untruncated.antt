@@ -1,5 +1,5 @@
 -- Where it is known that a volume is ready, but not in which way, it is ready: tests decide between the ways.
-use Rattle.std.proofs.Common.{◌≡◌, ◌≢◌, ℕ, Bool, true, false, Option, Some, None, IsSome, IsSomeAnd, ◌⊎◌, inl, inr, refl, ap}
+use Rattle.std.proofs.Common.{◌≡◌, ◌≢◌, ℕ, Bool, true, false, Option, Some, None, IsSomeAnd, ◌⊎◌, inl, inr, refl, ap}
 use mathlib.Core.Logic.{∥∥₁_elim, ∥∥₁_map}
 use mathlib.Core.Bool.{false≢true}
 use Rattle.std.proofs.Props.{props}
@@ -9,7 +9,6 @@ use Rattle.ck_model.specs.declared.key.Key.{Key}
 use Rattle.ck_model.specs.declared.key.Key.TheVariants.{Name, Node, Block}
 use Rattle.ck_model.specs.declared.held.Held.{Held}
 use Rattle.ck_model.specs.declared.held.Held.TheVariants.{Absent, Plain, Extent, Mark}
-use Rattle.ck_model.specs.declared.held.Small.{Small}
 use Rattle.ck_model.specs.declared.held.Small.TheVariants.{To, File, Dir}
 use Rattle.ck_model.specs.Chain.{is_gone}
 use Rattle.ck_model.specs.Key.{spelled, spelled_alike}
@@ -17,7 +16,6 @@ use Rattle.ck_model.specs.Rules.{KeyBelow, HeldBelow, IsOwn, IsOrderly, IsSound,
 use Rattle.ck_model.specs.Table.{Table, column, newer}
 use Rattle.ck_slots.specs.Lawful.{IsTable-prop}
 use Rattle.ck_volume.specs.declared.engine.Engine.{Engine}
-use Rattle.ck_volume.specs.Files.{AreFiles}
 use Rattle.ck_volume.specs.Plain.{IsOurs}
 use Rattle.ck_volume.specs.Engine.{table_of, IsWhole, IsReady}
 

@@ -1,4 +1,4 @@
-use Rattle.std.proofs.Common.{◌≡◌, ◌≤◌, ℕ, [], None, List, length, refl, sym, ap, subst, ◌∙◌, arith}
+use Rattle.std.proofs.Common.{◌≡◌, [], None, List, sym, ap, subst, ◌∙◌, arith}
 use Rattle.ck_model.specs.declared.entry.Entry.{Entry}
 use Rattle.ck_volume.specs.Causes.{HasCauses}
 use Rattle.ck_volume.specs.Engine.{disk_of, history_of, broken_of, Runs}

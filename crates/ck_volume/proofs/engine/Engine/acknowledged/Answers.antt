@@ -1,4 +1,4 @@
-use Rattle.std.proofs.Common.{◌≡◌, ◌-◌, ◌&&◌, true, Some, slice_get, sym, ap, subst, ◌∙◌, rules}
+use Rattle.std.proofs.Common.{◌≡◌, ◌&&◌, true, sym, ap, ◌∙◌, rules}
 use Rattle.ck_model.specs.declared.entry.Entry.{Entry}
 use Rattle.ck_volume.specs.Causes.{is_sync, is_done}
 use Rattle.ck_volume.specs.Engine.{history_of, newest}

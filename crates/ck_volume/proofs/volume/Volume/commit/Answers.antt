@@ -3,7 +3,7 @@ use Rattle.std.specs.Option.{option_or}
 use mathlib.Core.Logic.{∥∥₁_map}
 use Rattle.ck_model.specs.declared.entry.Entry.{Entry}
 use Rattle.ck_volume.specs.Causes.{HasCauses}
-use Rattle.ck_volume.specs.Closing.{broken_after, committed_after, spoilt_after}
+use Rattle.ck_volume.specs.Closing.{committed_after, spoilt_after}
 use Rattle.ck_volume.specs.Engine.{disk_of, history_of, broken_of}
 use Rattle.ck_volume.specs.Kept.{broken_by}
 use Rattle.ck_volume.specs.Told.{told_of}
