@@ -65,11 +65,7 @@ fn read(alloc: Global) -> Result<Call, Fail>
 }
 
 /// The volume, of few calls, after one call more.
-fn answered(
-    alloc: Global,
-    volume: Volume<MemDisk>,
-    call: &Call,
-) -> Result<Volume<MemDisk>, Fail>
+fn answered(alloc: Global, volume: Volume<MemDisk>, call: &Call) -> Result<Volume<MemDisk>, Fail>
     requires built { IsBuilt call.now }
     requires few { length_of volume < 100 }
     requires unspoilt { spoilt_of volume ≡ None }
@@ -102,6 +98,12 @@ fn has_again(alloc: Global, disk: MemDisk, bytes: &[u8]) -> Result<bool, Fail> {
     Ok(matches!(reply(&volume), Reply::Bytes(found) if found.items() == bytes))
 }
 
+/// Whether the device, opened again, has no such file.
+fn is_gone(alloc: Global, disk: MemDisk) -> Result<bool, Fail> {
+    let volume = answered(alloc, opened(alloc, disk)?, &read(alloc)?)?;
+    Ok(matches!(reply(&volume), Reply::NotFound))
+}
+
 #[test]
 fn what_was_committed_is_opened(rt: HostRuntime) -> Result<(), Fail> {
     let alloc = rt.alloc();
@@ -122,9 +124,7 @@ fn what_was_not_committed_is_gone(rt: HostRuntime) -> Result<(), Fail> {
     let alloc = rt.alloc();
     let volume = answered(alloc, new_volume(alloc, 0)?, &make(alloc)?)?;
     assert!(rt; matches!(reply(&volume), Reply::Done));
-
-    let again = answered(alloc, opened(alloc, volume.close().disk)?, &read(alloc)?)?;
-    assert!(rt; matches!(reply(&again), Reply::NotFound));
+    assert!(rt; is_gone(alloc, volume.close().disk)?);
     Ok(())
 }
 

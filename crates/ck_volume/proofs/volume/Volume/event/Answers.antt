@@ -33,7 +33,7 @@ invariant_of-self g c =
     let longer : length (history_of after) ≡ length old + 1 = longer-put old (history_of after) entry event.added in
     let committed = c.note_sync.new.committed.value in
     let now : committed ≡ (if c.acknowledged-synced.result then length (history_of after) else volume.committed.value) =
-        subst (λ (n : ℕ). committed ≡ (if c.acknowledged-synced.result then n else volume.committed.value)) c.length-answered.ensures c.note_sync.ensures in
+    subst (λ (n : ℕ). committed ≡ (if c.acknowledged-synced.result then n else volume.committed.value)) c.length-answered.ensures c.note_sync.ensures in
     record {
       ready = ∣ event.ready ∣₁;
       later = runs-more origin mid new volume.later event.runs;
