@@ -92,15 +92,22 @@ fn reply(volume: &Volume<MemDisk>) -> &Reply
     &volume.entry(volume.length() - 1).reply
 }
 
-/// Whether the file, read again from the device, has these bytes.
+/// The volume on a device, opened again, after it was asked for the file.
+fn read_again(alloc: Global, disk: MemDisk) -> Result<Volume<MemDisk>, Fail>
+    ensures { IfOk result (λ volume. length_of volume ≡ 1) }
+{
+    answered(alloc, opened(alloc, disk)?, &read(alloc)?)
+}
+
+/// Whether the file has these bytes when the device is opened again.
 fn has_again(alloc: Global, disk: MemDisk, bytes: &[u8]) -> Result<bool, Fail> {
-    let volume = answered(alloc, opened(alloc, disk)?, &read(alloc)?)?;
+    let volume = read_again(alloc, disk)?;
     Ok(matches!(reply(&volume), Reply::Bytes(found) if found.items() == bytes))
 }
 
-/// Whether the device, opened again, has no such file.
+/// Whether there is no such file when the device is opened again.
 fn is_gone(alloc: Global, disk: MemDisk) -> Result<bool, Fail> {
-    let volume = answered(alloc, opened(alloc, disk)?, &read(alloc)?)?;
+    let volume = read_again(alloc, disk)?;
     Ok(matches!(reply(&volume), Reply::NotFound))
 }
 
