@@ -1,7 +1,8 @@
-ghost use Rattle.std.specs.Prelude.{◌≡◌, ◌≤◌, ◌↔◌, IsTrue, length};
+ghost use Rattle.std.specs.Prelude.{◌≡◌, ◌≤◌, ◌↔◌, All, IsTrue, length};
+ghost use Rattle.std.specs.List.{list_all};
 ghost use Rattle.ck_model.specs.declared.key.Key.{Key};
 ghost use Rattle.ck_model.specs.Name.{IsNameByte, IsFileName};
-ghost use Rattle.ck_stream.specs.Reading.{Finds, file_name_at, name_at, node_at, block_at, key_at, item_at, follows, item_in, record_at};
+ghost use Rattle.ck_stream.specs.Reading.{Finds, is_name_byte, file_name_at, name_at, node_at, block_at, key_at, item_at, follows, item_in, record_at};
 ghost use Rattle.ck_stream.specs.SeenKey.{key_seen, last_seen, keyed};
 
 use crate::fault::Flaw;
@@ -12,9 +13,34 @@ use crate::seen::SeenKey;
 use crate::tag::Tag;
 
 fn is_name_byte(byte: u8) -> bool
-    ensures { IsTrue result ↔ IsNameByte byte }
+    ensures { result ≡ is_name_byte byte }
 {
     byte >= 33 && byte <= 126 && byte != b'/'
+}
+
+/// Whether all are bytes of a name. Each is looked at, so that the processor takes them together.
+fn are_name_bytes(bytes: &[u8]) -> bool
+    ensures { result ≡ list_all is_name_byte bytes.now }
+{
+    let mut all = true;
+    for byte in bytes {
+        all &= is_name_byte(*byte);
+    }
+    all
+}
+
+/// The same, eight bytes at a time.
+fn may_be_named(bytes: &[u8]) -> bool
+    ensures { IsTrue result ↔ All IsNameByte bytes.now }
+{
+    let mut rest = bytes;
+    while let Some((eight, behind)) = rest.split_first_chunk::<8>() {
+        if !are_name_bytes(eight) {
+            return false;
+        }
+        rest = behind;
+    }
+    are_name_bytes(rest)
 }
 
 /// Whether a directory may hold a name of these bytes.
@@ -23,7 +49,7 @@ fn is_file_name(bytes: &[u8]) -> bool
     requires few { length bytes.now ≤ NAME_LIMIT }
     ensures { IsTrue result ↔ IsFileName bytes.now }
 {
-    bytes.iter().all(|byte| is_name_byte(*byte)) && !matches!(bytes, b"." | b"..")
+    may_be_named(bytes) && !matches!(bytes, b"." | b"..")
 }
 
 /// A name where it stands behind its length, and the bytes behind it.
