@@ -158,11 +158,11 @@ fn records_are_counted(rt: HostRuntime) -> Result<(), Fail> {
     Ok(())
 }
 
-/// A full stream of names of node 1.
+/// A full stream of names of node 1, each behind its length.
 fn with_names(alloc: Global, names: &[&[u8]]) -> Result<Vec<u8>, NoMemory> {
     let mut bytes = Vec::from_slice(alloc, b"CKFULL01\x00\x00\x00\x01")?;
     for name in names {
-        bytes.extend_from_slice(&[1, 0, 0, 0, 0, name.len() as u8])?;
+        bytes.extend_from_slice(&[1, 0, 0, 0, 0])?;
         bytes.extend_from_slice(name)?;
         bytes.extend_from_slice(&[0, 0, 0, 1])?;
     }
@@ -180,28 +180,34 @@ fn names_are_compared_whole(rt: HostRuntime) -> Result<(), Fail> {
     let bytes = with_names(
         alloc,
         &[
-            b"report-2",
-            b"report-2024-spring",
-            b"report-2024-spring-1",
-            b"report-2024-summer",
-            b"report-3",
+            b"\x08report-2",
+            b"\x12report-2024-spring",
+            b"\x14report-2024-spring-1",
+            b"\x12report-2024-summer",
+            b"\x08report-3",
         ],
     )?;
     let (summary, end) = verify_stream(&bytes, 0)?;
     assert_eq!(rt; summary.records, 5);
     assert_eq!(rt; end, bytes.len());
     // The second record begins at 40.
-    let swapped = with_names(alloc, &[b"report-2024-summer", b"report-2024-spring"])?;
+    let swapped = with_names(
+        alloc,
+        &[b"\x12report-2024-summer", b"\x12report-2024-spring"],
+    )?;
     assert_eq!(rt;
         verify_stream(&swapped, 0).err(),
         Some(StreamFault::NotStream(40))
     );
-    let shorter = with_names(alloc, &[b"report-2024-spring", b"report-2024"])?;
+    let shorter = with_names(alloc, &[b"\x12report-2024-spring", b"\x0breport-2024"])?;
     assert_eq!(rt;
         verify_stream(&shorter, 0).err(),
         Some(StreamFault::NotStream(40))
     );
-    let twice = with_names(alloc, &[b"report-2024-spring", b"report-2024-spring"])?;
+    let twice = with_names(
+        alloc,
+        &[b"\x12report-2024-spring", b"\x12report-2024-spring"],
+    )?;
     assert_eq!(rt;
         verify_stream(&twice, 0).err(),
         Some(StreamFault::NotStream(40))
