@@ -7,7 +7,7 @@ use Rattle.ck_stream.specs.declared.fault.StreamFault.TheVariants as fault
 use Rattle.ck_stream.specs.declared.stream.Stream.{Stream}
 use Rattle.ck_stream.specs.declared.stream.Stream.TheVariants as stream
 use Rattle.ck_stream.specs.declared.stream.Summary.{Summary}
-use Rattle.ck_stream.specs.Reading.{◌>>=◌, HasFault, stream_at}
+use Rattle.ck_stream.specs.Reading.{◌>>=◌, stream_at}
 use Rattle.ck_stream.specs.Seen.{summary_of, seen}
 use Rattle.ck_image.specs.declared.refusal.Refusal.{Refusal}
 use Rattle.ck_image.specs.declared.refusal.Refusal.TheVariants as refusal
@@ -20,22 +20,17 @@ found_seen : (bytes : List ℕ) (at : ℕ) (read : Result (Stream × ℕ) Stream
 found_seen bytes at (Ok y) x h = cc
 found_seen bytes at (Err f) x h = absurd cc
 
-found_fault : (bytes : List ℕ) (at : ℕ) (f : StreamFault) (read : Result (Stream × ℕ) StreamFault) → HasFault f (seen read) → HasRefusal (refused_stream f) (seen (found_at bytes at read))
-found_fault bytes at (fault.NotStream place) (Ok y) h = absurd cc
-found_fault bytes at (fault.NotStream place) (Err g) h = let same : g ≡ fault.NotStream place = cc in ap (λ (f : StreamFault). Err (refused_stream f)) same
-found_fault bytes at (fault.Truncated total) (Ok y) h = absurd cc
-found_fault bytes at (fault.Truncated total) (Err g) h = let same : g ≡ fault.Truncated total = cc in ap (λ (f : StreamFault). Err (refused_stream f)) same
-found_fault bytes at (fault.Digest kept found) (Ok y) h = absurd cc
-found_fault bytes at (fault.Digest kept found) (Err g) h = let same : g ≡ fault.Digest kept found = cc in ap (λ (f : StreamFault). Err (refused_stream f)) same
-found_fault bytes at fault.NoMemory read h = tt
+found_fault : (bytes : List ℕ) (at : ℕ) (read : Result (Stream × ℕ) StreamFault) (f : StreamFault) → seen read ≡ Err f → seen (found_at bytes at read) ≡ Err (refused_stream f)
+found_fault bytes at (Ok y) f h = absurd cc
+found_fault bytes at (Err g) f h = let same : g ≡ f = cc in ap (λ (f : StreamFault). Err (refused_stream f)) same
 
 pub is_seen : (bytes : List ℕ) (x : Summary × ℕ) → seen (stream_at bytes 0) ≡ Ok x → seen (stream_in bytes 0) ≡ Ok x
 unfolding stream_in
 is_seen bytes x h = found_seen bytes 0 (stream_at bytes 0) x h
 
-pub has_fault : (bytes : List ℕ) (f : StreamFault) → HasFault f (seen (stream_at bytes 0)) → HasRefusal (refused_stream f) (seen (stream_in bytes 0))
+pub has_fault : (bytes : List ℕ) (f : StreamFault) → seen (stream_at bytes 0) ≡ Err f → seen (stream_in bytes 0) ≡ Err (refused_stream f)
 unfolding stream_in
-has_fault bytes f h = found_fault bytes 0 f (stream_at bytes 0) h
+has_fault bytes f h = found_fault bytes 0 (stream_at bytes 0) f h
 
 -- ---- the whole of it
 
@@ -63,16 +58,11 @@ all bytes x h same =
     let test : nat_eq x.1 (length bytes) ≡ true = grind (arith, nat_tests) in
     whole_told bytes x h ∙ ap (λ (b : Bool). cond b (Ok x.0) (Err (wrong_at x.1))) test
 
-refused_all : (bytes : List ℕ) (why : Refusal) (read : Result (Stream × ℕ) Refusal) → HasRefusal why (seen read) → HasRefusal why (told (read >>= λ y. all_of bytes y))
-refused_all bytes (refusal.Stream f) (Ok y) h = absurd cc
-refused_all bytes (refusal.Stream f) (Err g) h = cc
-refused_all bytes (refusal.WrongBase has wants) (Ok y) h = absurd cc
-refused_all bytes (refusal.WrongBase has wants) (Err g) h = cc
-refused_all bytes refusal.TooLong (Ok y) h = absurd cc
-refused_all bytes refusal.TooLong (Err g) h = cc
-refused_all bytes refusal.NoMemory read h = tt
+refused_all : (bytes : List ℕ) (why : Refusal) (read : Result (Stream × ℕ) Refusal) → seen read ≡ Err why → told (read >>= λ y. all_of bytes y) ≡ Err why
+refused_all bytes why (Ok y) h = absurd cc
+refused_all bytes why (Err g) h = cc
 
-pub whole_refused : (bytes : List ℕ) (why : Refusal) → HasRefusal why (seen (stream_in bytes 0)) → HasRefusal why (told (whole_in bytes))
+pub whole_refused : (bytes : List ℕ) (why : Refusal) → seen (stream_in bytes 0) ≡ Err why → told (whole_in bytes) ≡ Err why
 unfolding whole_in
 whole_refused bytes why h = refused_all bytes why (stream_in bytes 0) h
 
@@ -88,11 +78,9 @@ line_told (Ok s) x line h is =
     ap (λ (l : List ℕ). Ok l) (same_line s ∙ ap summary_line same ∙ sym is)
 line_told (Err why) x line h is = absurd cc
 
-pub line_refused : (why : Refusal) (read : Result Stream Refusal) → HasRefusal why (told read) → HasRefusal why (read >>= λ s. Ok (stream_line s))
-line_refused (refusal.Stream f) (Ok s) h = absurd cc
+pub line_refused : (why : Refusal) (read : Result Stream Refusal) → told read ≡ Err why → HasRefusal why (read >>= λ s. Ok (stream_line s))
+line_refused why (Ok s) h = absurd cc
 line_refused (refusal.Stream f) (Err g) h = cc
-line_refused (refusal.WrongBase has wants) (Ok s) h = absurd cc
 line_refused (refusal.WrongBase has wants) (Err g) h = cc
-line_refused refusal.TooLong (Ok s) h = absurd cc
 line_refused refusal.TooLong (Err g) h = cc
-line_refused refusal.NoMemory read h = tt
+line_refused refusal.NoMemory (Err g) h = tt

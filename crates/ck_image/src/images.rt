@@ -40,20 +40,20 @@ fn stream_of(alloc: Global, bytes: &[u8], at: usize) -> Result<(Stream, usize), 
 }
 
 /// What is told of the stream at the beginning, and the place behind it.
-fn summary_of(alloc: Global, bytes: &[u8]) -> Result<(Summary, usize), Refusal>
-    ensures { Answers (λ read. read) result (seen (stream_in bytes.now 0)) }
+fn summary_of(bytes: &[u8]) -> Result<(Summary, usize), Refusal>
+    ensures { result ≡ seen (stream_in bytes.now 0) }
 {
-    match verify_stream(alloc, bytes, 0) {
+    match verify_stream(bytes, 0) {
         Ok(read) => Ok(read),
         Err(fault) => Err(refused(fault)),
     }
 }
 
-/// What is told of the one stream that the bytes are.
-pub fn whole(alloc: Global, bytes: &[u8]) -> Result<Summary, Refusal>
-    ensures { Answers (λ told. told) result (told (whole_in bytes.now)) }
+/// What is told of the one stream that the bytes are. This takes no memory.
+pub fn whole(bytes: &[u8]) -> Result<Summary, Refusal>
+    ensures { result ≡ told (whole_in bytes.now) }
 {
-    let (summary, end) = summary_of(alloc, bytes)?;
+    let (summary, end) = summary_of(bytes)?;
     if end != bytes.len() {
         return Err(not_stream(end));
     }

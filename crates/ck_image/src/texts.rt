@@ -116,7 +116,7 @@ fn line_of(alloc: Global, summary: &Summary) -> Result<Vec<u8>, NoMemory>
 fn verified(alloc: Global, bytes: &[u8]) -> Result<Vec<u8>, Refusal>
     ensures { Answers (λ text. text.items) result (made_of Verify bytes.now) }
 {
-    let summary = whole(alloc, bytes)?;
+    let summary = whole(bytes)?;
     match line_of(alloc, &summary) {
         Ok(line) => Ok(line),
         Err(_) => Err(Refusal::NoMemory),

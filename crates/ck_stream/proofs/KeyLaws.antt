@@ -11,29 +11,34 @@ use Rattle.ck_stream.specs.declared.fault.Flaw.TheVariants as flaw
 use Rattle.ck_stream.specs.declared.tag.Tag.{Tag}
 use Rattle.ck_stream.specs.declared.tag.Tag.TheVariants as tag
 use Rattle.ck_stream.specs.Spelling.{key_text}
-use Rattle.ck_stream.specs.Reading.{◌>>=◌, number_at, run_at, is_file_name, file_name_in, file_name_at, name_at, node_at, index_in, block_at, key_at}
+use Rattle.ck_stream.specs.Reading.{◌>>=◌, number_at, run_at, is_file_name, counted_at, file_name_in, file_name_at, name_at, node_at, index_in, index_at, block_at, key_at}
 use Rattle.ck_stream.proofs.Names.{file_name-Decides}
-use Rattle.ck_stream.proofs.FieldLaws.{IsBytes, IsBytes-rest, bind_ok, passed, met, ok_is, Takes, Takes-then, word_takes, word_again, run_takes, run_again}
+use Rattle.ck_stream.proofs.FieldLaws.{IsBytes, IsBytes-rest, bind_ok, passed, met, ok_is, Takes, Takes-then, NumberTaken, word_takes, word_again, run_takes, run_again}
 
 pub record NameTaken (bytes : List ℕ) (read : List ℕ × List ℕ) : Type 0 where
   pub takes : Takes bytes (length read.0 ∷ read.0) read.1
   pub right : IsFileName read.0
 
+counted_takes : (bytes : List ℕ) (read : List ℕ × List ℕ) → IsBytes bytes → counted_at bytes ≡ Ok read → Takes bytes (length read.0 ∷ read.0) read.1
+unfolding counted_at
+counted_takes [] read fits e = absurd cc
+counted_takes (count ∷ bytes) read fits e =
+    let g = passed (nat_eq count 0 || nat_lt 40 count) flaw.Wrong (run_at count bytes) read e in
+    let run = run_takes count bytes read (IsBytes-rest count bytes fits) g.1 in
+    record { parts = (λ i. sym run.len i ∷ run.takes.parts i); rest_fits = run.takes.rest_fits }
+
 file_name_takes : (bytes : List ℕ) (read : List ℕ × List ℕ) → IsBytes bytes → file_name_at bytes ≡ Ok read → NameTaken bytes read
 unfolding file_name_at
-file_name_takes [] read fits e = absurd cc
-file_name_takes (count ∷ bytes) read fits e =
-    let g = passed (nat_eq count 0 || nat_lt 40 count) flaw.Wrong (run_at count bytes >>= λ run. file_name_in run) read e in
-    let a = bind_ok (run_at count bytes) (λ run. file_name_in run) read g.1 in
+file_name_takes bytes read fits e =
+    let a = bind_ok (counted_at bytes) (λ run. file_name_in run) read e in
     let m = met (is_file_name a.0.0) flaw.Wrong (Ok a.0) read a.2 in
-    let run = run_takes count bytes a.0 (IsBytes-rest count bytes fits) a.1 in
-    subst (λ (x : List ℕ × List ℕ). NameTaken (count ∷ bytes) x) (ok_is a.0 read m.1) (record {
-      takes = record { parts = (λ i. sym run.len i ∷ run.takes.parts i); rest_fits = run.takes.rest_fits };
+    subst (λ (x : List ℕ × List ℕ). NameTaken bytes x) (ok_is a.0 read m.1) (record {
+      takes = counted_takes bytes a.0 fits a.1;
       right = (file_name-Decides a.0.0).0 m.0;
     })
 
 file_name_again : (name rest : List ℕ) → IsFileName name → file_name_at (length name ∷ name ++ rest) ≡ Ok (name, rest)
-unfolding file_name_at
+unfolding file_name_at counted_at
 file_name_again name rest right =
     let some : nat_eq (length name) 0 ≡ false = let h = right.name.some in grind (arith, nat_tests) in
     let few : nat_lt 40 (length name) ≡ false = let h = right.name.few in grind (arith, nat_tests) in
@@ -81,18 +86,25 @@ node_takes bytes read fits e =
     let made : Key × List ℕ = (Node a.0.0, a.0.1) in
     subst (λ (x : Key × List ℕ). KeyTaken 1 bytes x) (ok_is made read a.2) (record { takes = first.takes; right = first.below; kind = refl })
 
+index_takes : (bytes : List ℕ) (read : ℕ × List ℕ) → IsBytes bytes → index_at bytes ≡ Ok read → NumberTaken w32 (2 ^ 32) bytes read × (read.0 < index_limit)
+unfolding index_at
+index_takes bytes read fits e =
+    let a = bind_ok (number_at w32 bytes) (λ index. index_in index) read e in
+    let m = met (nat_lt a.0.0 index_limit) flaw.Wrong (Ok a.0) read a.2 in
+    subst (λ (x : ℕ × List ℕ). NumberTaken w32 (2 ^ 32) bytes x × (x.0 < index_limit)) (ok_is a.0 read m.1)
+    (word_takes bytes a.0 fits a.1, (Decides-ltb a.0.0 index_limit).0 m.0)
+
 block_takes : (bytes : List ℕ) (read : Key × List ℕ) → IsBytes bytes → block_at bytes ≡ Ok read → KeyTaken 2 bytes read
 unfolding block_at
 block_takes bytes read fits e =
-    let a = bind_ok (number_at w32 bytes) (λ node. number_at w32 node.1 >>= λ index. index_in node.0 index) read e in
-    let b = bind_ok (number_at w32 a.0.1) (λ index. index_in a.0.0 index) read a.2 in
+    let a = bind_ok (number_at w32 bytes) (λ node. index_at node.1 >>= λ index. Ok (Block node.0 index.0, index.1)) read e in
+    let b = bind_ok (index_at a.0.1) (λ index. Ok (Block a.0.0 index.0, index.1)) read a.2 in
     let made : Key × List ℕ = (Block a.0.0 b.0.0, b.0.1) in
-    let m = met (nat_lt b.0.0 index_limit) flaw.Wrong (Ok made) read b.2 in
     let first = word_takes bytes a.0 fits a.1 in
-    let second = word_takes a.0.1 b.0 first.takes.rest_fits b.1 in
-    subst (λ (x : Key × List ℕ). KeyTaken 2 bytes x) (ok_is made read m.1) (record {
-      takes = Takes-then bytes (to_be_bytes w32 a.0.0) a.0.1 (to_be_bytes w32 b.0.0) b.0.1 first.takes second.takes;
-      right = (first.below, (Decides-ltb b.0.0 index_limit).0 m.0);
+    let second = index_takes a.0.1 b.0 first.takes.rest_fits b.1 in
+    subst (λ (x : Key × List ℕ). KeyTaken 2 bytes x) (ok_is made read b.2) (record {
+      takes = Takes-then bytes (to_be_bytes w32 a.0.0) a.0.1 (to_be_bytes w32 b.0.0) b.0.1 first.takes second.0.takes;
+      right = (first.below, second.1);
       kind = refl;
     })
 
@@ -117,7 +129,7 @@ unfolding node_at
 node_again node rest right = rw (word_again node rest right) refl
 
 pub block_again : (node index : ℕ) (rest : List ℕ) → IsKey (Block node index) → block_at (key_text (Block node index) ++ rest) ≡ Ok (Block node index, rest)
-unfolding block_at
+unfolding block_at index_at
 block_again node index rest right =
     let regrouped : key_text (Block node index) ++ rest ≡ to_be_bytes w32 node ++ (to_be_bytes w32 index ++ rest) = append_assoc (to_be_bytes w32 node) (to_be_bytes w32 index) rest in
     let word : index < 2 ^ 32 = let h = right.1 in omega arith in

@@ -1,4 +1,5 @@
 pub mod Names
+pub mod OrderLaws
 pub mod Loop
 pub mod FieldLaws
 pub mod KeyLaws

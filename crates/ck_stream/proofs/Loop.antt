@@ -49,25 +49,36 @@ goes_on front count i total full last rest number after item behind whole lt beg
     rw (k, begins, one_more (count - (i + 1)) total full last number after some, read) (regroup front item (items_at (count - (i + 1)) total full (Some (key_of item)) behind)) in
     sym one ∙ so_far
 
-wrong_here : (why : Flaw) (front : List Item) (total place : ℕ) (read : Result (Item × List ℕ) Flaw) (go : Item × List ℕ → Items) → HasFlaw why read → HasFault (fault_at total place why) (with_front front (located total place read >>= go))
-wrong_here flaw.Short front total place read go given = rw given refl
-wrong_here flaw.Wrong front total place read go given = rw given refl
-wrong_here flaw.NoMemory front total place read go given = tt
-
-stops : (why : Flaw) (front : List Item) (count i total : ℕ) (full : Bool) (last : Option Key) (rest : List ℕ) (number : ℕ) (after : List ℕ) (whole : Items) → i < count → rest ≡ number ∷ after → number ≢ 0 → HasFlaw why (record_at full last number after)
-    → with_front front (items_at (count - i) total full last rest) ≡ whole → HasFault (fault_at total (total - length rest) why) whole
-stops why front count i total full last rest number after whole lt begins some given so_far =
+stopped : (why : Flaw) (front : List Item) (count i total : ℕ) (full : Bool) (last : Option Key) (rest : List ℕ) (number : ℕ) (after : List ℕ) (whole : Items) → i < count → rest ≡ number ∷ after → number ≢ 0 → record_at full last number after ≡ Err why
+    → with_front front (items_at (count - i) total full last rest) ≡ whole → whole ≡ Err (fault_at total (total - length rest) why)
+stopped why front count i total full last rest number after whole lt begins some given so_far =
     let k : count - i ≡ suc (count - (i + 1)) = omega arith in
-    let go = λ (first : Item × List ℕ). items_at (count - (i + 1)) total full (Some (key_of first.0)) first.1 >>= λ others. Ok (first.0 ∷ others.0, others.1) in
-    let one : with_front front (items_at (count - i) total full last rest) ≡ with_front front (located total (total - length rest) (record_at full last number after) >>= go) =
-    rw (k, begins, one_more (count - (i + 1)) total full last number after some) refl in
-    subst (λ (read : Items). HasFault (fault_at total (total - length rest) why) read) (sym one ∙ so_far) (wrong_here why front total (total - length rest) (record_at full last number after) go given)
+    let one : with_front front (items_at (count - i) total full last rest) ≡ Err (fault_at total (total - length rest) why) =
+    rw (k, begins, one_more (count - (i + 1)) total full last number after some, given) refl in
+    sym so_far ∙ one
 
 -- the same, of a fault and a place that are equal to these
+pub stops_at : (why : Flaw) (answer : StreamFault) (place : ℕ) (front : List Item) (count i total : ℕ) (full : Bool) (last : Option Key) (rest : List ℕ) (number : ℕ) (after : List ℕ) (whole : Items) → answer ≡ fault_at total place why → place ≡ total - length rest → i < count → rest ≡ number ∷ after → number ≢ 0 → record_at full last number after ≡ Err why
+    → with_front front (items_at (count - i) total full last rest) ≡ whole → whole ≡ Err answer
+stops_at why answer place front count i total full last rest number after whole is stands lt begins some given so_far =
+    stopped why front count i total full last rest number after whole lt begins some given so_far
+    ∙ ap (λ (f : StreamFault). Err f) (sym (is ∙ ap (λ (at : ℕ). fault_at total at why) stands))
+
+has_fault : (f : StreamFault) (read : Items) → read ≡ Err f → HasFault f read
+has_fault (fault.NotStream place) read e = e
+has_fault (fault.Truncated total) read e = e
+has_fault (fault.Digest kept found) read e = e
+has_fault fault.NoMemory read e = tt
+
+-- the same where memory may run out
 pub stops_as : (why : Flaw) (answer : StreamFault) (place : ℕ) (front : List Item) (count i total : ℕ) (full : Bool) (last : Option Key) (rest : List ℕ) (number : ℕ) (after : List ℕ) (whole : Items) → answer ≡ fault_at total place why → place ≡ total - length rest → i < count → rest ≡ number ∷ after → number ≢ 0 → HasFlaw why (record_at full last number after)
     → with_front front (items_at (count - i) total full last rest) ≡ whole → HasFault answer whole
-stops_as why answer place front count i total full last rest number after whole is stands lt begins some given so_far =
-    subst (λ (f : StreamFault). HasFault f whole) (sym (is ∙ ap (λ (at : ℕ). fault_at total at why) stands)) (stops why front count i total full last rest number after whole lt begins some given so_far)
+stops_as flaw.Short answer place front count i total full last rest number after whole is stands lt begins some given so_far =
+    has_fault answer whole (stops_at flaw.Short answer place front count i total full last rest number after whole is stands lt begins some given so_far)
+stops_as flaw.Wrong answer place front count i total full last rest number after whole is stands lt begins some given so_far =
+    has_fault answer whole (stops_at flaw.Wrong answer place front count i total full last rest number after whole is stands lt begins some given so_far)
+stops_as flaw.NoMemory answer place front count i total full last rest number after whole is stands lt begins some given so_far =
+    subst (λ (f : StreamFault). HasFault f whole) (sym is) tt
 
 pub is_out : (front : List Item) (count i total : ℕ) (full : Bool) (last : Option Key) (rest : List ℕ) (whole : Items) → count ≤ i → with_front front (items_at (count - i) total full last rest) ≡ whole → whole ≡ Err (fault.Truncated total)
 unfolding items_at

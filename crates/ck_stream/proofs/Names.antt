@@ -19,6 +19,10 @@ name_byte-Decides byte =
 name_bytes-Decides : (bytes : List ℕ) → Decides (list_all is_name_byte bytes) (All IsNameByte bytes)
 name_bytes-Decides = Decides-by_and is_name_byte IsNameByte (list_all is_name_byte) name_byte-Decides refl (λ _ _. refl)
 
+-- what the test of all bytes says
+pub by_test : (r : Bool) (bytes : List ℕ) → r ≡ list_all is_name_byte bytes → IsTrue r ↔ All IsNameByte bytes
+by_test r bytes same = (λ h. (name_bytes-Decides bytes).0 (sym same ∙ h), λ each. same ∙ (name_bytes-Decides bytes).1 each)
+
 pub file_name-Decides : (bytes : List ℕ) → Decides (is_file_name bytes) (IsFileName bytes)
 file_name-Decides bytes =
     Decides-like _

@@ -16,9 +16,9 @@ use Rattle.ck_stream.specs.declared.tag.Tag.{Tag}
 use Rattle.ck_stream.specs.declared.tag.Tag.TheVariants as tag
 use Rattle.ck_stream.specs.Spelling.{key_text, payload_text, item_text}
 use Rattle.ck_stream.specs.Right.{size_limit, block_len, key_of, IsItem, IsPut}
-use Rattle.ck_stream.specs.Reading.{◌>>=◌, number_at, run_at, tag_at, key_at, named_at, size_in, file_at, bytes_at, item_at, follows, item_in, record_at}
+use Rattle.ck_stream.specs.Reading.{◌>>=◌, number_at, run_at, tag_at, key_at, named_at, size_in, size_at, file_at, bytes_at, item_at, follows, item_in, record_at}
 use Rattle.ck_stream.proofs.Names.{Decides-le}
-use Rattle.ck_stream.proofs.FieldLaws.{IsBytes, bind_ok, met, done, ok_is, Takes, Takes-then, word_takes, word_again, long_takes, long_again, run_takes, run_again}
+use Rattle.ck_stream.proofs.FieldLaws.{IsBytes, bind_ok, met, done, ok_is, Takes, Takes-then, NumberTaken, word_takes, word_again, long_takes, long_again, run_takes, run_again}
 use Rattle.ck_stream.proofs.KeyLaws.{kind_of, kind_for, key_takes, name_again, node_again, block_again}
 
 abbrev pub number_of : Tag → ℕ
@@ -102,16 +102,23 @@ named_takes (Name directory name) bytes read kind right fits e =
 named_takes (Node node) bytes read kind right fits e = absurd (omega arith)
 named_takes (Block node index) bytes read kind right fits e = absurd (omega arith)
 
+size_takes : (bytes : List ℕ) (read : ℕ × List ℕ) → IsBytes bytes → size_at bytes ≡ Ok read → NumberTaken w64 (2 ^ 64) bytes read × (read.0 ≤ size_limit)
+unfolding size_at
+size_takes bytes read fits e =
+    let a = bind_ok (number_at w64 bytes) (λ size. size_in size) read e in
+    let m = met (nat_le a.0.0 size_limit) flaw.Wrong (Ok a.0) read a.2 in
+    subst (λ (x : ℕ × List ℕ). NumberTaken w64 (2 ^ 64) bytes x × (x.0 ≤ size_limit)) (ok_is a.0 read m.1)
+    (long_takes bytes a.0 fits a.1, (Decides-le a.0.0 size_limit).0 m.0)
+
 file_takes : (key : Key) (bytes : List ℕ) (read : Item × List ℕ) → kind_of key ≡ 1 → IsKey key → IsBytes bytes → file_at key bytes ≡ Ok read → ItemTaken tag.File key bytes read
 unfolding file_at
 file_takes (Name directory name) bytes read kind right fits e = absurd (omega arith)
 file_takes (Node node) bytes read kind right fits e =
     let key : Key = Node node in
-    let a = bind_ok (number_at w64 bytes) (λ size. size_in key size) read e in
+    let a = bind_ok (size_at bytes) (λ size. Ok (Put key (File size.0), size.1)) read e in
     let made : Item × List ℕ = (Put key (File a.0.0), a.0.1) in
-    let m = met (nat_le a.0.0 size_limit) flaw.Wrong (Ok made) read a.2 in
-    let first = long_takes bytes a.0 fits a.1 in
-    subst (λ (x : Item × List ℕ). ItemTaken tag.File key bytes x) (ok_is made read m.1) (record { takes = first.takes; key_is = refl; text = refl; right = (right, (Decides-le a.0.0 size_limit).0 m.0); puts = λ _. tt })
+    let first = size_takes bytes a.0 fits a.1 in
+    subst (λ (x : Item × List ℕ). ItemTaken tag.File key bytes x) (ok_is made read a.2) (record { takes = first.0.takes; key_is = refl; text = refl; right = (right, first.1); puts = λ _. tt })
 file_takes (Block node index) bytes read kind right fits e = absurd (omega arith)
 
 bytes_takes : (key : Key) (bytes : List ℕ) (read : Item × List ℕ) → kind_of key ≡ 2 → IsKey key → IsBytes bytes → bytes_at key bytes ≡ Ok read → ItemTaken tag.Block key bytes read
@@ -216,7 +223,7 @@ unfolding named_at
 named_again key node rest right = rw (word_again node rest right) refl
 
 file_again : (key : Key) (size : ℕ) (rest : List ℕ) → size ≤ size_limit → file_at key (to_be_bytes w64 size ++ rest) ≡ Ok (Put key (File size), rest)
-unfolding file_at
+unfolding file_at size_at
 file_again key size rest right =
     let lt : size < 2 ^ 64 = omega arith in
     rw (long_again size rest lt, (Decides-le size size_limit).1 right) refl

@@ -4,15 +4,19 @@ use Rattle.std.specs.Prelude.{nat_eq, IfOk}
 use Rattle.std.specs.Cmp.Lexicographic.{pointwise}
 use Rattle.sha2.specs.Sha256.{sha256}
 use Rattle.ck_stream.specs.declared.item.Item.{Item}
+use Rattle.ck_model.specs.declared.key.Key.{Key}
+use Rattle.ck_stream.specs.declared.fault.Flaw.{Flaw}
 use Rattle.ck_stream.specs.declared.fault.StreamFault.{StreamFault}
 use Rattle.ck_stream.specs.declared.fault.StreamFault.TheVariants as fault
 use Rattle.ck_stream.specs.declared.tag.Header.{Header}
 use Rattle.ck_stream.specs.declared.tag.Header.TheVariants as header
 use Rattle.ck_stream.specs.declared.stream.Stream.{Stream}
 use Rattle.ck_stream.specs.declared.stream.Summary.{Summary}
-use Rattle.ck_stream.specs.Reading.{◌>>=◌, HasFault, Gives, located, header_at, items_at, end_at, is_full, made, signed, digest_in, stream_at}
+use Rattle.ck_stream.specs.Reading.{◌>>=◌, located, header_at, items_at, end_at, is_full, made, signed, digest_in, stream_at}
+use Rattle.ck_stream.specs.Right.{key_of}
+use Rattle.ck_stream.specs.SeenKey.{keyed}
 use Rattle.ck_stream.specs.Seen.{summary_of, TellsOf, seen, counted, seen_at}
-use Rattle.ck_stream.proofs.FieldLaws.{IsBytes}
+use Rattle.ck_stream.proofs.FieldLaws.{IsBytes, ok_is}
 use Rattle.ck_stream.proofs.StreamLaws.{stream_takes}
 
 summary_made : (h : Header) (items : List Item) → summary_of (made h items) ≡ record { header = h; records = length items }
@@ -48,18 +52,19 @@ pub seen_is : (bytes : List ℕ) (at : ℕ) → seen (stream_at bytes at) ≡ se
 unfolding stream_at seen_at
 seen_is bytes at = same_head bytes at (located (length bytes) at (header_at (drop at bytes)))
 
--- a fault of a reading is one of a reading that counts
-pub counted_fault : (f : StreamFault) (read : Result (List Item × List ℕ) StreamFault) → HasFault f read → HasFault f (counted read)
-counted_fault (fault.NotStream place) read given = ap counted given
-counted_fault (fault.Truncated total) read given = ap counted given
-counted_fault (fault.Digest kept found) read given = ap counted given
-counted_fault fault.NoMemory read given = tt
+-- ---- a record that is passed over is the one that is read
+
+pub keyed_ok : (read : Result (Item × List ℕ) Flaw) (key : Key) (rest : List ℕ) → keyed read ≡ Ok (key, rest) → (item : Item) × (read ≡ Ok (item, rest)) × (key_of item ≡ key)
+keyed_ok (Ok x) key rest e =
+    let same : (key_of x.0, x.1) ≡ (key, rest) = ok_is (key_of x.0, x.1) (key, rest) e in
+    (x.0, (λ i. Ok (x.0, (same i).1)), λ i. (same i).0)
+keyed_ok (Err why) key rest e = absurd cc
+
+pub keyed_err : (read : Result (Item × List ℕ) Flaw) (why : Flaw) → keyed read ≡ Err why → read ≡ Err why
+keyed_err (Ok x) why e = absurd cc
+keyed_err (Err other) why e = let same : other ≡ why = cc in λ i. Err (same i)
 
 -- ---- what an answer says
-
-pub is_exact : (bytes : List ℕ) (at : ℕ) (answer : Result (Summary × ℕ) StreamFault) → Gives (λ read. read) answer (seen_at bytes at) → Gives (λ read. read) answer (seen (stream_at bytes at))
-is_exact bytes at answer given =
-    subst (λ (read : Result (Summary × ℕ) StreamFault). Gives (λ x. x) answer read) (sym (seen_is bytes at)) given
 
 tells : (bytes : List ℕ) (at : ℕ) (there : Result (Stream × ℕ) StreamFault) (read : Summary × ℕ) → at ≤ length bytes → IsBytes bytes → stream_at bytes at ≡ there → seen there ≡ Ok read → TellsOf bytes at read
 tells bytes at (Ok x) read within fits is h =
@@ -73,6 +78,6 @@ tells bytes at (Ok x) read within fits is h =
     })
 tells bytes at (Err f) read within fits is h = absurd cc
 
-pub tells_of : (bytes : List ℕ) (at : ℕ) (answer : Result (Summary × ℕ) StreamFault) → at ≤ length bytes → IsBytes bytes → Gives (λ read. read) answer (seen (stream_at bytes at)) → IfOk answer (λ read. TellsOf bytes at read)
-tells_of bytes at (Ok read) within fits e = tells bytes at (stream_at bytes at) read within fits refl e
+pub tells_of : (bytes : List ℕ) (at : ℕ) (answer : Result (Summary × ℕ) StreamFault) → at ≤ length bytes → IsBytes bytes → answer ≡ seen (stream_at bytes at) → IfOk answer (λ read. TellsOf bytes at read)
+tells_of bytes at (Ok read) within fits e = tells bytes at (stream_at bytes at) read within fits refl (sym e)
 tells_of bytes at (Err why) within fits e = tt

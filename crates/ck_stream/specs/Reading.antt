@@ -40,6 +40,11 @@ abbrev pub Reads : {X Y : Type 0} → (X → Y) → Result X Flaw → Result Y F
 Reads view (Ok x) read = read ≡ Ok (view x)
 Reads view (Err why) read = HasFlaw why read
 
+-- the same of a call that takes no memory: its faults are reading's too
+abbrev pub Finds : {X Y E : Type 0} → (X → Y) → Result X E → Result Y E → Type 0
+Finds view (Ok x) read = read ≡ Ok (view x)
+Finds view (Err why) read = read ≡ Err why
+
 -- ---- fields: a value, and the bytes behind it
 
 abbrev pub number_at : Width → List ℕ → Result (ℕ × List ℕ) Flaw
@@ -65,12 +70,34 @@ is_file_name bytes =
 abbrev pub file_name_in : List ℕ × List ℕ → Result (List ℕ × List ℕ) Flaw
 file_name_in run = if is_file_name run.0 then Ok run else Err flaw.Wrong
 
--- the length is looked at before the bytes
+-- as many bytes as the first one says; the length is looked at before them
+unfoldable pub counted_at : List ℕ → Result (List ℕ × List ℕ) Flaw
+counted_at [] = Err flaw.Short
+counted_at (count ∷ bytes) =
+    if nat_eq count 0 || nat_lt 40 count then Err flaw.Wrong else run_at count bytes
+
 unfoldable pub file_name_at : List ℕ → Result (List ℕ × List ℕ) Flaw
-file_name_at [] = Err flaw.Short
-file_name_at (count ∷ bytes) =
-    if nat_eq count 0 || nat_lt 40 count then Err flaw.Wrong
-    else (run_at count bytes >>= λ run. file_name_in run)
+file_name_at bytes = do
+  run ← counted_at bytes
+  file_name_in run
+
+-- the index of a block, of which a file has so many at most
+abbrev pub index_in : ℕ × List ℕ → Result (ℕ × List ℕ) Flaw
+index_in index = if nat_lt index.0 index_limit then Ok index else Err flaw.Wrong
+
+unfoldable pub index_at : List ℕ → Result (ℕ × List ℕ) Flaw
+index_at bytes = do
+  index ← number_at w32 bytes
+  index_in index
+
+-- the size of a file
+abbrev pub size_in : ℕ × List ℕ → Result (ℕ × List ℕ) Flaw
+size_in size = if nat_le size.0 size_limit then Ok size else Err flaw.Wrong
+
+unfoldable pub size_at : List ℕ → Result (ℕ × List ℕ) Flaw
+size_at bytes = do
+  size ← number_at w64 bytes
+  size_in size
 
 -- ---- records
 
@@ -98,15 +125,11 @@ node_at bytes = do
   node ← number_at w32 bytes
   Ok (Node node.0, node.1)
 
-abbrev pub index_in : ℕ → ℕ × List ℕ → Result (Key × List ℕ) Flaw
-index_in node index =
-    if nat_lt index.0 index_limit then Ok (Block node index.0, index.1) else Err flaw.Wrong
-
 unfoldable pub block_at : List ℕ → Result (Key × List ℕ) Flaw
 block_at bytes = do
   node ← number_at w32 bytes
-  index ← number_at w32 node.1
-  index_in node.0 index
+  index ← index_at node.1
+  Ok (Block node.0 index.0, index.1)
 
 unfoldable pub key_at : Tag → List ℕ → Result (Key × List ℕ) Flaw
 key_at tag.Name bytes = name_at bytes
@@ -122,14 +145,10 @@ named_at key bytes = do
   node ← number_at w32 bytes
   Ok (Put key (To node.0), node.1)
 
-abbrev pub size_in : Key → ℕ × List ℕ → Result (Item × List ℕ) Flaw
-size_in key size =
-    if nat_le size.0 size_limit then Ok (Put key (File size.0), size.1) else Err flaw.Wrong
-
 unfoldable pub file_at : Key → List ℕ → Result (Item × List ℕ) Flaw
 file_at key bytes = do
-  size ← number_at w64 bytes
-  size_in key size
+  size ← size_at bytes
+  Ok (Put key (File size.0), size.1)
 
 unfoldable pub bytes_at : Key → List ℕ → Result (Item × List ℕ) Flaw
 bytes_at key bytes = do

@@ -1,5 +1,5 @@
 ghost use Rattle.std.specs.Prelude.{◌≡◌};
-ghost use Rattle.ck_stream.specs.Reading.{Reads, id_at, full_header_at, changed_header_at, header_at, is_full, made};
+ghost use Rattle.ck_stream.specs.Reading.{Finds, id_at, full_header_at, changed_header_at, header_at, is_full, made};
 
 use crate::fault::Flaw;
 use crate::fields::{run_of, u32_of};
@@ -8,7 +8,7 @@ use crate::{Changed, Full, Items, Stream};
 
 #[tactic(auto, unfolding(crate::specs::Reading::id_at))]
 fn id_of(bytes: &[u8]) -> Result<(u32, &[u8]), Flaw>
-    ensures { Reads (λ x. (x.0, x.1.now)) result (id_at bytes.now) }
+    ensures { Finds (λ x. (x.0, x.1.now)) result (id_at bytes.now) }
 {
     let (id, rest) = u32_of(bytes)?;
     if id == 0 {
@@ -19,7 +19,7 @@ fn id_of(bytes: &[u8]) -> Result<(u32, &[u8]), Flaw>
 
 #[tactic(auto, unfolding(crate::specs::Reading::full_header_at))]
 fn full_header(bytes: &[u8]) -> Result<(Header, &[u8]), Flaw>
-    ensures { Reads (λ x. (x.0, x.1.now)) result (full_header_at bytes.now) }
+    ensures { Finds (λ x. (x.0, x.1.now)) result (full_header_at bytes.now) }
 {
     let (id, rest) = id_of(bytes)?;
     Ok((Header::Full(id), rest))
@@ -27,7 +27,7 @@ fn full_header(bytes: &[u8]) -> Result<(Header, &[u8]), Flaw>
 
 #[tactic(auto, unfolding(crate::specs::Reading::changed_header_at))]
 fn changed_header(bytes: &[u8]) -> Result<(Header, &[u8]), Flaw>
-    ensures { Reads (λ x. (x.0, x.1.now)) result (changed_header_at bytes.now) }
+    ensures { Finds (λ x. (x.0, x.1.now)) result (changed_header_at bytes.now) }
 {
     let (earlier, rest) = id_of(bytes)?;
     let (later, rest) = u32_of(rest)?;
@@ -40,7 +40,7 @@ fn changed_header(bytes: &[u8]) -> Result<(Header, &[u8]), Flaw>
 /// The header, and the bytes behind it.
 #[tactic(auto, unfolding(crate::specs::Reading::header_at))]
 pub fn header_of(bytes: &[u8]) -> Result<(Header, &[u8]), Flaw>
-    ensures { Reads (λ x. (x.0, x.1.now)) result (header_at bytes.now) }
+    ensures { Finds (λ x. (x.0, x.1.now)) result (header_at bytes.now) }
 {
     let (magic, rest) = run_of(8, bytes)?;
     if magic == b"CKFULL01".as_slice() {

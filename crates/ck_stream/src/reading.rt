@@ -4,7 +4,7 @@ ghost use Rattle.ck_stream.specs.declared.fault.StreamFault.TheVariants as fault
 ghost use Rattle.ck_stream.specs.declared.stream.Stream.{Stream};
 ghost use Rattle.ck_stream.specs.Spelling.{text, StandsIn};
 ghost use Rattle.ck_stream.specs.Right.{IsStream};
-ghost use Rattle.ck_stream.specs.Reading.{Reads, Gives, run_at, fault_at, located, header_at, items_at, end_at, signed, stream_at};
+ghost use Rattle.ck_stream.specs.Reading.{Finds, Gives, run_at, fault_at, located, header_at, items_at, end_at, signed, stream_at};
 
 use crate::fault::Flaw;
 use crate::fields::u64_of;
@@ -31,7 +31,7 @@ pub fn fault_at(flaw: Flaw, total: usize, place: usize) -> StreamFault
 
 pub fn header_in(bytes: &[u8], at: usize) -> Result<(Header, &[u8]), StreamFault>
     requires { at ≤ length bytes.now }
-    ensures { Gives (λ x. (x.0, x.1.now)) result
+    ensures { Finds (λ x. (x.0, x.1.now)) result
         (located (length bytes.now) at (header_at (drop at bytes.now))) }
 {
     match header_of(&bytes[at..]) {
@@ -82,7 +82,7 @@ fn items_of(
 }
 
 fn digest_bytes(bytes: &[u8]) -> Result<([u8; 32], &[u8]), Flaw>
-    ensures { Reads (λ x. (x.0, x.1.now)) result (run_at 32 bytes.now) }
+    ensures { Finds (λ x. (x.0, x.1.now)) result (run_at 32 bytes.now) }
 {
     match bytes.split_first_chunk::<32>() {
         Some((digest, rest)) => Ok((*digest, rest)),
@@ -93,7 +93,7 @@ fn digest_bytes(bytes: &[u8]) -> Result<([u8; 32], &[u8]), Flaw>
 /// The digest that is kept behind the number of records, and the bytes behind it.
 #[tactic(auto, unfolding(crate::specs::Reading::end_at))]
 fn end_of(count: usize, bytes: &[u8]) -> Result<([u8; 32], &[u8]), Flaw>
-    ensures { Reads (λ x. (x.0, x.1.now)) result (end_at count bytes.now) }
+    ensures { Finds (λ x. (x.0, x.1.now)) result (end_at count bytes.now) }
 {
     let (number, rest) = u64_of(bytes)?;
     if number != count as u64 {
@@ -112,7 +112,7 @@ pub fn digest_of(bytes: &[u8], rest: usize) -> [u8; 32]
 }
 
 pub fn end_in(total: usize, count: usize, bytes: &[u8]) -> Result<([u8; 32], &[u8]), StreamFault>
-    ensures { Gives (λ x. (x.0, x.1.now)) result
+    ensures { Finds (λ x. (x.0, x.1.now)) result
         (located total (total - suc (length bytes.now)) (end_at count bytes.now)) }
 {
     match end_of(count, bytes) {

@@ -3,24 +3,18 @@ ghost use Rattle.ck_stream.specs.Reading.{Reads, tag_at, name_at, node_at, block
 
 use crate::Item;
 use crate::fault::Flaw;
-use crate::fields::{name_of, run_of, u32_of, u64_of};
+use crate::fields::{index_of, name_of, run_of, size_of, u32_of};
 use crate::order::compare;
 use crate::tag::Tag;
 use ck_model::{Key, Octets, Payload};
 use std::alloc::Global;
 
-/// The greatest size of a file.
-const SIZE_LIMIT: u64 = 1_073_741_824;
-
-/// How many blocks a file of that size has.
-const INDEX_END: u32 = 262_144;
-
 /// The length of a block.
-const BLOCK_LEN: usize = 4096;
+pub const BLOCK_LEN: usize = 4096;
 
 /// The kind of record that begins with this tag. A full stream has none that removes.
-fn tag_of(full: bool, number: u8) -> Result<Tag, Flaw>
-    ensures { Reads (λ tag. tag) result (tag_at full number) }
+pub fn tag_of(full: bool, number: u8) -> Result<Tag, Flaw>
+    ensures { result ≡ tag_at full number }
 {
     match number {
         1 => Ok(Tag::Name),
@@ -59,10 +53,7 @@ fn block_key(bytes: &[u8]) -> Result<(Key, &[u8]), Flaw>
     ensures { Reads (λ x. (x.0, x.1.now)) result (block_at bytes.now) }
 {
     let (node, rest) = u32_of(bytes)?;
-    let (index, rest) = u32_of(rest)?;
-    if index >= INDEX_END {
-        return Err(Flaw::Wrong);
-    }
+    let (index, rest) = index_of(rest)?;
     Ok((Key::Block(node, index), rest))
 }
 
@@ -89,10 +80,7 @@ fn named(key: Key, bytes: &[u8]) -> Result<(Item, &[u8]), Flaw>
 fn file(key: Key, bytes: &[u8]) -> Result<(Item, &[u8]), Flaw>
     ensures { Reads (λ x. (x.0, x.1.now)) result (file_at key bytes.now) }
 {
-    let (size, rest) = u64_of(bytes)?;
-    if size > SIZE_LIMIT {
-        return Err(Flaw::Wrong);
-    }
+    let (size, rest) = size_of(bytes)?;
     Ok((Item::Put(key, Payload::File(size)), rest))
 }
 

@@ -3,6 +3,7 @@ ghost use Rattle.ck_stream.specs.Right.{IsStream, IsFull, IsChanged};
 
 use super::*;
 use ck_model::NoMemory;
+use sha2::{Digest, Sha256};
 use std::alloc::Global;
 use std::test::Fail;
 
@@ -150,10 +151,67 @@ fn each_record_is_read_and_written(rt: HostRuntime) -> Result<(), Fail> {
 fn records_are_counted(rt: HostRuntime) -> Result<(), Fail> {
     let alloc = rt.alloc();
     let bytes = with_block(alloc, &CHANGES_HEAD, &CHANGES_TAIL)?;
-    let (summary, end) = verify_stream(alloc, &bytes, 0)?;
+    let (summary, end) = verify_stream(&bytes, 0)?;
     assert_eq!(rt; end, 4207);
     assert!(rt; matches!(summary.header, Header::Changed(7, 9)));
     assert_eq!(rt; summary.records, 6);
+    Ok(())
+}
+
+/// A full stream of names of node 1, each behind its length.
+fn with_names(alloc: Global, names: &[&[u8]]) -> Result<Vec<u8>, NoMemory> {
+    let mut bytes = Vec::from_slice(alloc, b"CKFULL01\x00\x00\x00\x01")?;
+    for name in names {
+        bytes.extend_from_slice(&[1, 0, 0, 0, 0])?;
+        bytes.extend_from_slice(name)?;
+        bytes.extend_from_slice(&[0, 0, 0, 1])?;
+    }
+    bytes.push(0)?;
+    bytes.extend_from_slice(&(names.len() as u64).to_be_bytes())?;
+    let digest = Sha256::digest(bytes.as_slice());
+    bytes.extend_from_slice(&digest)?;
+    Ok(bytes)
+}
+
+#[test]
+fn names_are_compared_whole(rt: HostRuntime) -> Result<(), Fail> {
+    let alloc = rt.alloc();
+    // The first eight bytes are the same, also the first sixteen, or one is how another begins.
+    let bytes = with_names(
+        alloc,
+        &[
+            b"\x08report-2",
+            b"\x12report-2024-spring",
+            b"\x14report-2024-spring-1",
+            b"\x12report-2024-summer",
+            b"\x08report-3",
+        ],
+    )?;
+    let (summary, end) = verify_stream(&bytes, 0)?;
+    assert_eq!(rt; summary.records, 5);
+    assert_eq!(rt; end, bytes.len());
+    // The second record begins at 40.
+    let swapped = with_names(
+        alloc,
+        &[b"\x12report-2024-summer", b"\x12report-2024-spring"],
+    )?;
+    assert_eq!(rt;
+        verify_stream(&swapped, 0).err(),
+        Some(StreamFault::NotStream(40))
+    );
+    let shorter = with_names(alloc, &[b"\x12report-2024-spring", b"\x0breport-2024"])?;
+    assert_eq!(rt;
+        verify_stream(&shorter, 0).err(),
+        Some(StreamFault::NotStream(40))
+    );
+    let twice = with_names(
+        alloc,
+        &[b"\x12report-2024-spring", b"\x12report-2024-spring"],
+    )?;
+    assert_eq!(rt;
+        verify_stream(&twice, 0).err(),
+        Some(StreamFault::NotStream(40))
+    );
     Ok(())
 }
 

@@ -2,23 +2,17 @@ ghost use Rattle.std.specs.Prelude.{◌≡◌, ◌≤◌, ℕ, IfOk, Ok, None, l
 ghost use Rattle.ck_stream.specs.declared.stream.Stream.{Stream};
 ghost use Rattle.ck_stream.specs.Spelling.{text, StandsIn};
 ghost use Rattle.ck_stream.specs.Right.{IsStream};
-ghost use Rattle.ck_stream.specs.Reading.{Gives, items_at, stream_at};
+ghost use Rattle.ck_stream.specs.Reading.{Finds, items_at, stream_at};
 ghost use Rattle.ck_stream.specs.Seen.{summary_of, TellsOf, seen, counted, seen_at};
 
 use crate::header::is_full;
+use crate::passing::pass_record;
 use crate::reading::{byte_of, digest_of, end_in, fault_at, header_in};
-use crate::records::record_of;
 use crate::{StreamFault, Summary};
-use std::alloc::Global;
 
 /// How many records there are up to the end's tag, and the bytes behind that tag.
-fn count_of(
-    alloc: Global,
-    full: bool,
-    total: usize,
-    bytes: &[u8],
-) -> Result<(usize, &[u8]), StreamFault>
-    ensures { Gives (λ x. (x.0, x.1.now)) result
+fn count_of(full: bool, total: usize, bytes: &[u8]) -> Result<(usize, &[u8]), StreamFault>
+    ensures { Finds (λ x. (x.0, x.1.now)) result
         (counted (items_at (length bytes.now) total full None bytes.now)) }
 {
     let mut last = None;
@@ -28,9 +22,9 @@ fn count_of(
         match byte_of(rest) {
             None => return Err(StreamFault::Truncated(total as u64)),
             Some((0, after)) => return Ok((count, after)),
-            Some((number, after)) => match record_of(alloc, full, &last, number, after) {
-                Ok((item, after)) => {
-                    last = Some(item.key());
+            Some((number, after)) => match pass_record(full, last, number, after) {
+                Ok((key, after)) => {
+                    last = Some(key);
                     rest = after;
                 }
                 Err(flaw) => return Err(fault_at(flaw, total, total.saturating_sub(rest.len()))),
@@ -41,15 +35,12 @@ fn count_of(
 }
 
 #[tactic(auto, unfolding(crate::specs::Seen::seen_at))]
-fn summary_in(alloc: Global, bytes: &[u8], at: usize) -> Result<(Summary, usize), StreamFault>
+fn summary_in(bytes: &[u8], at: usize) -> Result<(Summary, usize), StreamFault>
     requires { at ≤ length bytes.now }
-    ensures { Gives (λ x. x) result (seen_at bytes.now at) }
+    ensures { result ≡ seen_at bytes.now at }
 {
     let (header, rest) = header_in(bytes, at)?;
-    let (records, rest) = match count_of(alloc, is_full(header), bytes.len(), rest) {
-        Ok(read) => read,
-        Err(fault) => return Err(fault),
-    };
+    let (records, rest) = count_of(is_full(header), bytes.len(), rest)?;
     let (kept, rest) = end_in(bytes.len(), records, rest)?;
     let found = digest_of(&bytes[at..], rest.len());
     if kept != found {
@@ -59,21 +50,17 @@ fn summary_in(alloc: Global, bytes: &[u8], at: usize) -> Result<(Summary, usize)
     Ok((Summary { header, records }, end))
 }
 
-/// What is told of the stream that begins at `at`, and the place behind it. No record is kept, so
-/// this takes the memory of one record.
-pub fn verify_stream(
-    alloc: Global,
-    bytes: &[u8],
-    at: usize,
-) -> Result<(Summary, usize), StreamFault>
+/// What is told of the stream that begins at `at`, and the place behind it. The records are passed
+/// over where they stand, and this takes no memory.
+pub fn verify_stream(bytes: &[u8], at: usize) -> Result<(Summary, usize), StreamFault>
     requires { at ≤ length bytes.now }
     // A right stream is spelled there, and this is told of it.
     ensures stands { IfOk result (λ read. TellsOf bytes.now at read) }
-    // What is right and spelled there is told of, unless memory runs out.
+    // What is right and spelled there is told of.
     ensures only { (s : Stream) (end : ℕ) → IsStream s → StandsIn bytes.now at end (text s)
-        → Gives (λ read. read) result (Ok (summary_of s, end)) }
+        → result ≡ Ok (summary_of s, end) }
     // Which fault it is, and where: what reading the stream gives, without the records.
-    ensures exact { Gives (λ read. read) result (seen (stream_at bytes.now at)) }
+    ensures exact { result ≡ seen (stream_at bytes.now at) }
 {
-    summary_in(alloc, bytes, at)
+    summary_in(bytes, at)
 }
