@@ -1,5 +1,6 @@
 -- How a play ends, by what its parts answer.
 use Rattle.std.proofs.Common.{◌≡◌, ◌⊎◌, inl, inr, ⊎_elim, ℕ, suc, ◌+◌, ◌≤◌, true, false, ◌||◌, IsTrue, List, [], ◌∷◌, length, get_or, if◌then◌else◌, refl, sym, ap, ◌∙◌, subst, arith}
+use mathlib.Core.Logic.{∥∥₁_map}
 use Rattle.std.specs.Prelude.{Result, Ok, Err, OnOk, IfErr}
 use Rattle.ck_disk.specs.Disk.{Image, Meaning, Lawful, Agrees, IsClean, IsSynced, LeavesOnly, Rose}
 use Rattle.ck_model.specs.declared.call.Call.{Call}
@@ -17,7 +18,7 @@ use Rattle.ck_volume.specs.declared.closing.CommitAnswer.{CommitAnswer}
 use Rattle.ck_volume.specs.declared.closing.CommitAnswer.TheVariants as answer
 use Rattle.ck_volume.specs.Recovering.{Recovers}
 use Rattle.ck_admin.specs.Ending.{IsPrinted, IsUnplayed, EndsOn}
-use Rattle.ck_admin.specs.Crash.{synced_count, RecoversCut, CutFrom, LeavesCuts, found_broken, IsPlayed}
+use Rattle.ck_admin.specs.Crash.{synced_count, RecoversCut, CutFrom, LeavesCuts, LeavesSince, found_broken, IsPlayed}
 use Rattle.ck_volume.specs.Causes.{HasCauses, replies_of}
 use Rattle.ck_admin.specs.Play.{IsPlay, lost_a_write}
 use Rattle.ck_admin.specs.Statuses.{IsPrintFault, IsOpenStatus, play_status}
@@ -85,32 +86,35 @@ module _ (source left : SourceMeaning) (clock : ClockMeaning) (old new : SinkMea
   cut_from : (least : ℕ) (image : Image) → CutFrom mid calls w history least image → CutFrom before calls w history least image
   cut_from least image cut told = cut (told_mid told)
 
-  unsynced : (image : Image) → after.left_since before.moment image → before.may_leave image ⊎ CutFrom before calls w history 0 image
-  unsynced image since =
+  unsynced : LeavesSince calls w mid after history → (image : Image) → after.left_since before.moment image → before.may_leave image ⊎ CutFrom before calls w history 0 image
+  unsynced leaves image since =
       ⊎_elim
       (λ (was : mid.left_since before.moment image). inl (opened.each image was))
       (λ (cut : CutFrom mid calls w history 0 image). inr (cut_from 0 image cut))
-      (played.any_moment.before before.moment image opened.later since)
+      (leaves.any_moment.before before.moment image opened.later since)
 
   -- the world that the device recovered to is the cut without entries
   none_yet : IsSynced before → IsTrue before.tells → (image : Image) → before.may_leave image → RecoversCut calls w history 0 image
   none_yet synced told image may = record {
     count = 0;
+    given = 0;
     least_is = omega arith;
     within = omega arith;
+    few = omega arith;
     recovers = λ texts. subst (λ c. Recovers c (unmounted w)) (sym (synced_image before law told synced image may)) (subst (Recovers before.shows) bare (recovers told));
   }
 
-  cuts : LeavesCuts calls w before after history
-  cuts = record {
-    any_moment = λ synced image since told.
-        ⊎_elim
-        (λ (may : before.may_leave image). none_yet synced told image may)
-        (λ (cut : CutFrom before calls w history 0 image). cut told)
-        (unsynced image since);
-    unsynced = unsynced;
-    at_the_end = λ image may. cut_from (synced_count calls history) image (played.at_the_end image may);
-  }
+  cuts : ∥ LeavesCuts calls w before after history ∥₁
+  cuts = ∥∥₁_map played.cuts (λ leaves.
+      record {
+        any_moment = λ synced image since told.
+            ⊎_elim
+            (λ (may : before.may_leave image). none_yet synced told image may)
+            (λ (cut : CutFrom before calls w history 0 image). cut told)
+            (unsynced leaves image since);
+        unsynced = unsynced leaves;
+        at_the_end = λ image may. cut_from (synced_count calls history) image (leaves.at_the_end image may);
+      })
 
   prints : (E : CallsBy → World → List Entry → Type 0) (P : CallsBy → List Entry → Type 0) → E calls w history → P calls history → PrintsPlay source clock before after E P
   prints E P ends printed = record { read = read; world = w; history = history; script = script; recovers = recovers; play = from_before; leaves = cuts; ends = ends; printed = printed }
@@ -118,7 +122,7 @@ module _ (source left : SourceMeaning) (clock : ClockMeaning) (old new : SinkMea
   ends_whole : committed ≡ answer.Done → EndsWhole after calls w history
   ends_whole done = record {
     no_fault = played.lost ∙ ap found_broken done;
-    exact = λ told. played.exact done (subst IsTrue played.any_moment.tells told);
+    exact = λ told. played.exact done (subst IsTrue played.later.tells told);
   }
 
   lost_nothing : found_broken committed ≡ false → LostNothing calls w history

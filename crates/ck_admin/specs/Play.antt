@@ -1,25 +1,15 @@
 -- Plays of scripts on a volume over a device.
-use Rattle.std.specs.Prelude.{◌≡◌, ◌≤◌, ◌+◌, ⊤, ℕ, Bool, false, List, [], ◌∷◌, Option, Some, None, IsTrue, MatchOption, if◌then◌else◌}
+use Rattle.std.specs.Prelude.{◌≡◌, ◌≤◌, ℕ, Bool, List, None, IsTrue}
 use Rattle.std.specs.List.{AllByRecursion, list_any}
-use Rattle.std.specs.Option.{option_or}
 use Rattle.ck_disk.specs.Disk.{Meaning}
 use Rattle.ck_io.specs.Clock.{ClockMeaning}
 use Rattle.ck_model.specs.declared.call.Call.{Call}
 use Rattle.ck_model.specs.declared.entry.Entry.{Entry}
-use Rattle.ck_model.specs.declared.reply.Reply.{Reply}
-use Rattle.ck_model.specs.declared.reply.Reply.TheVariants.{Broken}
 use Rattle.ck_model.specs.Streams.{Texts}
 use Rattle.ck_model.specs.World.{World}
-use Rattle.ck_model.specs.History.{IsLegal, IsOfScript, call_at, is_write_fault, is_broken}
+use Rattle.ck_model.specs.History.{IsLegal, IsOfScript, call_at, is_write_fault}
 use Rattle.ck_volume.specs.Causes.{HasCauses}
-pub use Rattle.ck_volume.specs.Kept.{broken_by}
-
--- after an entry WriteFault each one is Broken with its number, and no other is
-abbrev pub BreaksFrom : ℕ → Option ℕ → List Entry → Type 0
-BreaksFrom number broken [] = ⊤
-BreaksFrom number broken (entry ∷ entries) =
-    MatchOption broken (is_broken entry.reply ≡ false) (λ by. entry.reply ≡ Broken by)
-    × BreaksFrom (number + 1) (option_or broken (if is_write_fault entry.reply then Some number else None)) entries
+pub use Rattle.ck_volume.specs.Kept.{broken_by, BreaksFrom}
 
 -- an entry is WriteFault
 abbrev pub lost_a_write : List Entry → Bool

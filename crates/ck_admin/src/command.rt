@@ -1,4 +1,4 @@
-ghost use Rattle.std.specs.Prelude.{◌≡◌, ◌≤◌, ◌<◌, ◌++◌, ◌⊎◌, false, ℕ, Ok, Some, None, IsTrue, length, is_none, string_bytes, map as list_map};
+ghost use Rattle.std.specs.Prelude.{[], ◌≡◌, ◌≤◌, ◌<◌, ◌++◌, ◌⊎◌, false, ℕ, Ok, Some, None, IsTrue, length, is_none, string_bytes, map as list_map};
 ghost use Rattle.std.specs.Bool.{OnTrue, OnFalse};
 ghost use Rattle.std.specs.List.{AllByRecursion};
 ghost use Rattle.ck_io.specs.Bytes.{GainsPrefix};
@@ -7,7 +7,8 @@ ghost use Rattle.ck_log.specs.Layout.{size_of};
 ghost use Rattle.ck_report.specs.Status.{status_line};
 ghost use Rattle.ck_script.specs.Numbered.{calls_in};
 ghost use Rattle.ck_volume.specs.Built.{IsBuilt};
-ghost use Rattle.ck_volume.specs.Volume.{disk_of, spoilt_of, world_of, KeepsWorld, IsBegun};
+ghost use Rattle.ck_volume.specs.Volume.{disk_of, origin_of, told_of, spoilt_of, world_of, IsBegun};
+ghost use Rattle.ck_volume.specs.Recovering.{Recovers};
 ghost use Rattle.ck_words.specs.declared.command.Command.TheVariants.{Play, Mkfs};
 ghost use Rattle.ck_words.specs.Words.{command_of};
 ghost use Rattle.ck_admin.specs.Ending.{EndsOn};
@@ -59,7 +60,9 @@ fn play_volume<K: Sink, D: Disk, C: Clock>(
     clock: &mut C,
 ) -> Ended<D>
     requires begun { IsBegun (D.means (disk_of volume)) volume }
-    requires kept { IsTrue (D.means (disk_of volume)).tells → KeepsWorld (D.means (disk_of volume)) volume (world_of (D.means (disk_of volume)).shows volume) }
+    requires origin { origin_of volume ≡ disk_of volume }
+    requires recovers { IsTrue (D.means (disk_of volume)).tells → Recovers (D.means (disk_of volume)).shows (world_of (D.means (disk_of volume)).shows volume) }
+    requires told { told_of volume ≡ [] }
     requires unspoilt { spoilt_of volume ≡ None }
     requires built { AllByRecursion (λ line. IsBuilt line.call) script.now.calls }
     requires few { length script.now.calls ≤ 65536 }

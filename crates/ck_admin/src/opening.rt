@@ -1,5 +1,5 @@
-ghost use Rattle.std.specs.Prelude.{◌≡◌, None, IfOk, IfErr};
-ghost use Rattle.ck_volume.specs.Volume.{disk_of, spoilt_of, IsOpened};
+ghost use Rattle.std.specs.Prelude.{◌≡◌, [], None, IfOk, IfErr};
+ghost use Rattle.ck_volume.specs.Volume.{disk_of, origin_of, told_of, spoilt_of, IsOpened};
 ghost use Rattle.ck_admin.specs.Statuses.{IsOpenStatus, not_opened_status};
 
 use crate::command::Ended;
@@ -23,6 +23,8 @@ pub fn not_opened(words: Result<Octets, NoMemory>) -> Status
 /// Opens the volume on a device. Where it isn't opened the command ends so.
 pub fn open<D: Disk>(alloc: Global, disk: D) -> Result<Volume<D>, Ended<D>>
     ensures unspoilt { IfOk result (λ volume. spoilt_of volume ≡ None) }
+    ensures origin { IfOk result (λ volume. origin_of volume ≡ disk_of volume) }
+    ensures told { IfOk result (λ volume. told_of volume ≡ []) }
     ensures opened { IfOk result (λ volume. IsOpened (D.means disk) (D.means (disk_of volume)) volume) }
     ensures refused { IfErr result (λ ended. IsOpenStatus (D.means disk) (D.means ended.disk) ended.status) }
 {

@@ -1,11 +1,12 @@
-ghost use Rattle.std.specs.Prelude.{◌≡◌, ◌≤◌, [], None, IfOk, OnOk, OnErr, IsTrue, is_some, length};
+ghost use Rattle.std.specs.Prelude.{◌≡◌, ◌≤◌, [], None, IfOk, OnOk, OnErr, IsTrue, length};
 ghost use Rattle.std.specs.List.{AllByRecursion};
-ghost use Rattle.ck_model.specs.History.{call_at};
+ghost use Rattle.ck_model.specs.History.{IsOfScript, call_at};
 ghost use Rattle.ck_script.specs.Numbered.{calls_in};
 ghost use Rattle.ck_volume.specs.Built.{IsBuilt};
-ghost use Rattle.ck_volume.specs.Volume.{disk_of, history_of, room_of, broken_of, spoilt_of, world_of, KeepsWorld, IsBegun};
-ghost use Rattle.ck_admin.specs.Crash.{LeavesVolume, IsPlayed};
-ghost use Rattle.ck_admin.specs.Play.{IsPlay, IsLater, lost_a_write};
+ghost use Rattle.ck_volume.specs.Volume.{disk_of, history_of, room_of, spoilt_of, committed_of, told_of, origin_of, world_of, IsBegun};
+ghost use Rattle.ck_volume.specs.Recovering.{Recovers};
+ghost use Rattle.ck_volume.specs.Told.{AreAnswered};
+ghost use Rattle.ck_admin.specs.Crash.{synced_count, IsPlayed};
 
 use ck_disk::Disk;
 use ck_io::Clock;
@@ -22,15 +23,16 @@ fn answer_all<D: Disk, C: Clock>(
     clock: &mut C,
 )
     requires begun { IsBegun (D.means (disk_of volume.old)) volume.old }
-    requires kept { IsTrue (D.means (disk_of volume.old)).tells → KeepsWorld (D.means (disk_of volume.old)) volume.old (world_of (D.means (disk_of volume.old)).shows volume.old) }
+    requires told { told_of volume.old ≡ [] }
     requires unspoilt { spoilt_of volume.old ≡ None }
     requires built { AllByRecursion (λ line. IsBuilt line.call) script.now.calls }
     requires room { length script.now.calls ≤ room_of volume.old }
-    ensures play { IsPlay (calls_in script.now.calls) (C.means clock.old) (world_of (D.means (disk_of volume.old)).shows volume.old)
-        (D.means (disk_of volume.old)) (D.means (disk_of volume.new)) (history_of volume.new) }
-    ensures leaves { LeavesVolume (call_at (calls_in script.now.calls)) (world_of (D.means (disk_of volume.old)).shows volume.old)
-        (D.means (disk_of volume.old)) (D.means (disk_of volume.new)) (history_of volume.new) volume.new }
-    ensures broken { is_some (broken_of volume.new) ≡ lost_a_write (history_of volume.new) }
+    ensures of_script { IsOfScript (calls_in script.now.calls) (history_of volume.new) }
+    ensures moments { IsTrue (C.means clock.old).tells → AllByRecursion (λ entry. entry.at ≡ (C.means clock.old).moment) (history_of volume.new) }
+    ensures unspoilt { spoilt_of volume.new ≡ None }
+    ensures answered { AreAnswered (call_at (calls_in script.now.calls)) (told_of volume.new) (history_of volume.new) }
+    ensures synced { synced_count (call_at (calls_in script.now.calls)) (history_of volume.new) ≤ committed_of volume.new }
+    ensures origin { origin_of volume.new ≡ origin_of volume.old }
     ensures clock { C.means clock.new ≡ C.means clock.old }
 {
     let mut progress = Progress::Fresh;
@@ -56,15 +58,16 @@ pub fn play<D: Disk, C: Clock>(
     clock: &mut C,
 ) -> Result<(), NoMemory>
     requires begun { IsBegun (D.means (disk_of volume.old)) volume.old }
-    requires kept { IsTrue (D.means (disk_of volume.old)).tells → KeepsWorld (D.means (disk_of volume.old)) volume.old (world_of (D.means (disk_of volume.old)).shows volume.old) }
+    requires told { told_of volume.old ≡ [] }
     requires unspoilt { spoilt_of volume.old ≡ None }
     requires built { AllByRecursion (λ line. IsBuilt line.call) script.now.calls }
     requires few { length script.now.calls ≤ 65536 }
-    ensures play { OnOk result (IsPlay (calls_in script.now.calls) (C.means clock.old) (world_of (D.means (disk_of volume.old)).shows volume.old)
-        (D.means (disk_of volume.old)) (D.means (disk_of volume.new)) (history_of volume.new)) }
-    ensures leaves { OnOk result (LeavesVolume (call_at (calls_in script.now.calls)) (world_of (D.means (disk_of volume.old)).shows volume.old)
-        (D.means (disk_of volume.old)) (D.means (disk_of volume.new)) (history_of volume.new) volume.new) }
-    ensures broken { OnOk result (is_some (broken_of volume.new) ≡ lost_a_write (history_of volume.new)) }
+    ensures of_script { OnOk result (IsOfScript (calls_in script.now.calls) (history_of volume.new)) }
+    ensures moments { OnOk result (IsTrue (C.means clock.old).tells → AllByRecursion (λ entry. entry.at ≡ (C.means clock.old).moment) (history_of volume.new)) }
+    ensures unspoilt { OnOk result (spoilt_of volume.new ≡ None) }
+    ensures answered { OnOk result (AreAnswered (call_at (calls_in script.now.calls)) (told_of volume.new) (history_of volume.new)) }
+    ensures synced { OnOk result (synced_count (call_at (calls_in script.now.calls)) (history_of volume.new) ≤ committed_of volume.new) }
+    ensures origin { origin_of volume.new ≡ origin_of volume.old }
     ensures refused { OnErr result (disk_of volume.new ≡ disk_of volume.old) }
     ensures none { OnErr result (history_of volume.new ≡ []) }
     ensures clock { C.means clock.new ≡ C.means clock.old }
@@ -82,7 +85,9 @@ pub fn play_and_commit<D: Disk, C: Clock>(
     clock: &mut C,
 ) -> Result<CommitAnswer, NoMemory>
     requires begun { IsBegun (D.means (disk_of volume.old)) volume.old }
-    requires kept { IsTrue (D.means (disk_of volume.old)).tells → KeepsWorld (D.means (disk_of volume.old)) volume.old (world_of (D.means (disk_of volume.old)).shows volume.old) }
+    requires origin { origin_of volume.old ≡ disk_of volume.old }
+    requires recovers { IsTrue (D.means (disk_of volume.old)).tells → Recovers (D.means (disk_of volume.old)).shows (world_of (D.means (disk_of volume.old)).shows volume.old) }
+    requires told { told_of volume.old ≡ [] }
     requires unspoilt { spoilt_of volume.old ≡ None }
     requires built { AllByRecursion (λ line. IsBuilt line.call) script.now.calls }
     requires few { length script.now.calls ≤ 65536 }

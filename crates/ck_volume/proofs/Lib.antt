@@ -35,3 +35,9 @@ pub mod CausesLemmas
 pub mod ToldLemmas
 pub mod StandsLemmas
 pub mod StoodLemmas
+pub mod CutsLemmas
+pub mod CutsAfter
+pub mod CutsBegin
+pub mod CutsReserved
+pub mod ExactKnown
+pub mod TopCutsLemmas

@@ -1,19 +1,21 @@
 -- A history that stands, from the beginning on.
 use Rattle.std.proofs.Common.{◌≡◌, ℕ, ◌+◌, ◌≤◌, Bool, true, false, Option, Some, None, IsTrue, List, [], ◌∷◌, ◌++◌, length, if◌then◌else◌, refl, sym, ap, subst, ◌∙◌, arith}
+use Rattle.std.specs.Prelude.{MatchOption}
 use Rattle.std.specs.Option.{option_or}
 use Rattle.ck_disk.specs.Disk.{Meaning, Lawful}
 use Rattle.ck_model.specs.declared.call.Call.{Call}
 use Rattle.ck_model.specs.declared.entry.Entry.{Entry}
+use Rattle.ck_model.specs.declared.reply.Reply.TheVariants.{Broken}
 use Rattle.ck_model.specs.Streams.{Texts}
 use Rattle.ck_model.specs.World.{World}
-use Rattle.ck_model.specs.History.{CallsBy, IsLegal, begun, past_of, is_write_fault}
+use Rattle.ck_model.specs.History.{CallsBy, IsLegal, begun, past_of, is_write_fault, is_broken}
 use Rattle.ck_volume.specs.declared.closing.CommitAnswer.{CommitAnswer}
 use Rattle.ck_volume.specs.declared.closing.CommitAnswer.TheVariants as answer
 use Rattle.ck_volume.specs.declared.engine.Engine.{Engine}
 use Rattle.ck_volume.specs.Closing.{broken_after, committed_after, spoilt_after}
 use Rattle.ck_volume.specs.Engine.{history_of, broken_of, world_of, past_on, Follows, IsEntryOf}
 use Rattle.ck_volume.specs.Formatting.{IsFormatted, new_world}
-use Rattle.ck_volume.specs.Kept.{broken_by, Stands}
+use Rattle.ck_volume.specs.Kept.{broken_by, BreaksFrom, Stands}
 use Rattle.ck_volume.specs.Opening.{IsOpened}
 use Rattle.ck_volume.specs.Recovering.{Recovers}
 use Rattle.ck_volume.specs.Told.{AreAnswered}
@@ -36,6 +38,19 @@ broken-more number broken (first ∷ history) entry =
     let same : (number + 1) + length history ≡ number + length (first ∷ history) = omega arith in
     broken-more (number + 1) next history entry
     ∙ ap (λ (n : ℕ). option_or (broken_by (number + 1) next history) (if is_write_fault entry.reply then Some n else None)) same
+
+breaks-more : (number : ℕ) (broken : Option ℕ) (history : List Entry) (entry : Entry) → BreaksFrom number broken history
+    → MatchOption (broken_by number broken history) (is_broken entry.reply ≡ false) (λ by. entry.reply ≡ Broken by) → BreaksFrom number broken (history ++ entry ∷ [])
+breaks-more number broken [] entry h next = (next, tt)
+breaks-more number broken (first ∷ history) entry h next =
+    (h.0, breaks-more (number + 1) (option_or broken (if is_write_fault first.reply then Some number else None)) history entry h.1 next)
+
+-- a volume that no commit broke answers Broken exactly where an entry broke it
+pub replies-more : (history after : List Entry) (entry : Entry) (old : Option ℕ) → old ≡ broken_by 0 None history → after ≡ history ++ entry ∷ []
+    → MatchOption old (is_broken entry.reply ≡ false) (λ by. entry.reply ≡ Broken by) → BreaksFrom 0 None history → BreaksFrom 0 None after
+replies-more history after entry old was added refused breaks =
+    subst (λ (es : List Entry). BreaksFrom 0 None es) (sym added)
+    (breaks-more 0 None history entry breaks (subst (λ (o : Option ℕ). MatchOption o (is_broken entry.reply ≡ false) (λ by. entry.reply ≡ Broken by)) was refused))
 
 pub broken-goes : (history after : List Entry) (entry : Entry) (old new : Option ℕ) → old ≡ broken_by 0 None history → after ≡ history ++ entry ∷ []
     → new ≡ option_or old (if is_write_fault entry.reply then Some (length history) else None) → new ≡ broken_by 0 None after

@@ -1,5 +1,6 @@
 -- Where it is known that a history stands, but not in which way, it stands: it does in one way at most.
-use Rattle.std.proofs.Common.{◌≡◌, ℕ, Bool, Option, List, [], ◌∷◌, refl}
+use Rattle.std.proofs.Common.{◌≡◌, ℕ, ◌+◌, Bool, false, Option, Some, None, MatchOption, List, [], ◌∷◌, if◌then◌else◌, refl}
+use Rattle.std.specs.Option.{option_or}
 use Rattle.std.specs.Coded.{×_prop, Coded, Coded-set, code_by, coded×, coded_ℕ, coded_bool, coded_list, coded_option}
 use Rattle.std.specs.FinMap as map
 use Rattle.std.proofs.Props.{props}
@@ -17,13 +18,14 @@ use Rattle.ck_model.specs.declared.checkpoint.Kind.{Kind}
 use Rattle.ck_model.specs.declared.checkpoint.Limits.{Limits}
 use Rattle.ck_model.specs.declared.entry.Entry.{Entry}
 use Rattle.ck_model.specs.declared.reply.Reply.{Reply}
+use Rattle.ck_model.specs.declared.reply.Reply.TheVariants.{Broken}
 use Rattle.ck_model.specs.Cells.{Cells}
 use Rattle.ck_model.specs.Step.{Outcome}
 use Rattle.ck_model.specs.Streams.{Texts}
 use Rattle.ck_model.specs.World.{World, Checkpoint, Mounts}
-use Rattle.ck_model.specs.History.{Past, CallsBy, IsStepOf, IsRefusal, IsLegalAt, IsLegalWhole, IsLegalNext, IsLegalFrom, past_after}
+use Rattle.ck_model.specs.History.{Past, CallsBy, IsStepOf, IsRefusal, IsLegalAt, IsLegalWhole, IsLegalNext, IsLegalFrom, past_after, is_write_fault, is_broken}
 use Rattle.ck_volume.specs.declared.engine.Engine.{Engine}
-use Rattle.ck_volume.specs.Kept.{Stands}
+use Rattle.ck_volume.specs.Kept.{BreaksFrom, Stands}
 
 -- ---- a past is one of a set
 
@@ -48,6 +50,9 @@ world_code =
     (λ w. (w.limits, (w.primary, (w.checkpoints, (w.next, w.mounts)))))
     (λ p. record { limits = p.0; primary = p.1.0; checkpoints = p.1.1.0; next = p.1.1.1.0; mounts = p.1.1.1.1 })
     (λ _. refl)
+
+pub world-set : IsSet World
+world-set = Coded-set world_code
 
 past_code : Coded Past
 past_code =
@@ -85,6 +90,15 @@ legal_from-prop texts calls past (entry ∷ history) =
     let first : IsProp (IsLegalNext texts calls past entry) = legal_next-prop texts calls past entry in
     let rest : IsProp (IsLegalFrom texts calls (past_after texts calls past entry) history) = legal_from-prop texts calls (past_after texts calls past entry) history in
     ×_prop first rest
+
+breaks_from-prop : (number : ℕ) (broken : Option ℕ) (history : List Entry) → IsProp (BreaksFrom number broken history)
+breaks_from-prop number broken [] = hlevel props
+breaks_from-prop number broken (entry ∷ history) =
+    let first : IsProp (MatchOption broken (is_broken entry.reply ≡ false) (λ by. entry.reply ≡ Broken by)) = hlevel (reply-set, props) in
+    ×_prop first (breaks_from-prop (number + 1) (option_or broken (if is_write_fault entry.reply then Some number else None)) history)
+
+pub breaks-known : (history : List Entry) → ∥ BreaksFrom 0 None history ∥₁ → BreaksFrom 0 None history
+breaks-known history known = ∥∥₁_elim known (breaks_from-prop 0 None history) (λ breaks. breaks)
 
 same-prop : (a b : Past) → IsProp (a ≡ b)
 same-prop a b = past-set a b

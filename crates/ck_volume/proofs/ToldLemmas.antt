@@ -20,6 +20,14 @@ answered-before calls (one ∷ told) call (first ∷ history) entry h =
     let rest = answered-before calls told call history entry h.1 in
     ((h.0, rest.0), rest.1)
 
+-- and with one more
+pub answered-more : (calls : CallsBy) (told : List Call) (call : Call) (history : List Entry) (entry : Entry) → AreAnswered calls told history → calls entry.actor entry.seq ≡ Some call
+    → AreAnswered calls (told ++ call ∷ []) (history ++ entry ∷ [])
+answered-more calls [] call [] entry h is = (is, tt)
+answered-more calls [] call (first ∷ history) entry h is = absurd h
+answered-more calls (one ∷ told) call [] entry h is = absurd h
+answered-more calls (one ∷ told) call (first ∷ history) entry h is = (h.0, answered-more calls told call history entry h.1 is)
+
 -- an entry that may stand after a legal history
 pub legal-more : (texts : Texts) (calls : CallsBy) (w : World) (history : List Entry) (entry : Entry) (past next : Past)
     → IsLegal texts calls w history → past_of texts calls (begun w) history ≡ past → IsLegalNext texts calls past entry → past_after texts calls past entry ≡ next

@@ -1,12 +1,13 @@
 -- What a volume keeps of its history.
-use Rattle.std.specs.Prelude.{◌≡◌, ℕ, ◌+◌, List, [], ◌∷◌, Option, Some, None, IsTrue, if◌then◌else◌}
+use Rattle.std.specs.Prelude.{◌≡◌, ⊤, ℕ, ◌+◌, false, MatchOption, List, [], ◌∷◌, Option, Some, None, IsTrue, if◌then◌else◌}
 use Rattle.std.specs.Option.{option_or}
 use Rattle.ck_disk.specs.Disk.{Meaning}
 use Rattle.ck_model.specs.declared.call.Call.{Call}
 use Rattle.ck_model.specs.declared.entry.Entry.{Entry}
+use Rattle.ck_model.specs.declared.reply.Reply.TheVariants.{Broken}
 use Rattle.ck_model.specs.Streams.{Texts}
 use Rattle.ck_model.specs.World.{World}
-use Rattle.ck_model.specs.History.{CallsBy, IsLegal, begun, past_of, is_write_fault}
+use Rattle.ck_model.specs.History.{CallsBy, IsLegal, begun, past_of, is_write_fault, is_broken}
 use Rattle.ck_volume.specs.declared.engine.Engine.{Engine}
 use Rattle.ck_volume.specs.Engine.{history_of, length_of, world_of}
 use Rattle.ck_volume.specs.Recovering.{Recovers}
@@ -16,6 +17,13 @@ use Rattle.ck_volume.specs.Told.{AreAnswered}
 abbrev pub broken_by : ℕ → Option ℕ → List Entry → Option ℕ
 broken_by number broken [] = broken
 broken_by number broken (entry ∷ entries) = broken_by (number + 1) (option_or broken (if is_write_fault entry.reply then Some number else None)) entries
+
+-- after an entry WriteFault each one is Broken with its number, and no other is
+abbrev pub BreaksFrom : ℕ → Option ℕ → List Entry → Type 0
+BreaksFrom number broken [] = ⊤
+BreaksFrom number broken (entry ∷ entries) =
+    MatchOption broken (is_broken entry.reply ≡ false) (λ by. entry.reply ≡ Broken by)
+    × BreaksFrom (number + 1) (option_or broken (if is_write_fault entry.reply then Some number else None)) entries
 
 -- Where the device tells what it holds, the history is legal from the world that the origin recovers to, and leads to the
 -- present one, whatever the texts of streams are.

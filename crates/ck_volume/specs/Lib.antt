@@ -25,4 +25,6 @@ pub mod Closing
 pub mod Causes
 pub mod Told
 pub mod Kept
+pub mod Cuts
+pub mod TopCuts
 pub mod Volume

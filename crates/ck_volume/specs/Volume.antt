@@ -10,11 +10,12 @@ use Rattle.ck_model.specs.Table.{Table}
 use Rattle.ck_model.specs.World.{World, Mounts}
 use Rattle.ck_volume.specs.declared.volume.Volume.{Volume}
 use Rattle.ck_volume.specs.Causes.{HasCauses}
+use Rattle.ck_volume.specs.Cuts as cuts
 use Rattle.ck_volume.specs.Engine as engine
 pub use Rattle.ck_volume.specs.Engine.{newest, is_read_fault, Runs, Follows, HasCause, IsEntryOf}
 use Rattle.ck_volume.specs.Formatting as formatting
 use Rattle.ck_volume.specs.Kept as kept
-pub use Rattle.ck_volume.specs.Kept.{broken_by}
+pub use Rattle.ck_volume.specs.Kept.{broken_by, BreaksFrom}
 use Rattle.ck_volume.specs.Opening as opening
 use Rattle.ck_volume.specs.Told as told
 
@@ -90,14 +91,21 @@ KeepsAllButRoom before after = engine.KeepsAllButRoom before.engine after.engine
 abbrev pub Stands : {D : Type 0} {g : Ghosts D} → (D → Meaning) → Volume D g → Type 0
 Stands means volume = kept.Stands (means (origin_of volume)) (means (disk_of volume)) (told_of volume) volume.engine
 
+-- Each image that a crash may have left since the origin opens to a cut of the history, and each one now to a cut with at
+-- least what was committed.
+abbrev pub LeavesCuts : {D : Type 0} {g : Ghosts D} → (D → Meaning) → Volume D g → Type 0
+LeavesCuts means volume = cuts.LeavesCuts (means (origin_of volume)) (means (disk_of volume)) (told_of volume) (committed_of volume) volume.engine
+
 -- What every volume keeps. Since its beginning its device ran, and failed at least as often as its entries tell; an
 -- entry broke it, or a commit did; and what was committed is no more than what was answered.
 pub record IsKept {D : Type 0} {g : Ghosts D} (means : D → Meaning) (volume : Volume D g) : Type 0 where
   pub runs : Runs (means (origin_of volume)) (means (disk_of volume))
   pub causes : HasCauses (means (origin_of volume)) (means (disk_of volume)) (history_of volume)
   pub breaks : broken_of volume ≡ option_or (broken_by 0 None (history_of volume)) (spoilt_of volume)
+  pub replies : BreaksFrom 0 None (history_of volume)
   pub stands : Stands means volume
   pub within : committed_of volume ≤ length_of volume
+  pub cuts : ∥ LeavesCuts means volume ∥₁
 
 -- a volume at its beginning
 abbrev pub IsBegun : {D : Type 0} {g : Ghosts D} → Meaning → Volume D g → Type 0

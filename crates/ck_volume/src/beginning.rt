@@ -1,6 +1,7 @@
 ghost use Rattle.std.specs.Prelude.{◌≡◌, [], None, IsTrue};
+ghost use Rattle.ck_model.specs.World.{unmounted};
 ghost use Rattle.ck_volume.specs.Recovering.{Recovers};
-ghost use Rattle.ck_volume.specs.Engine.{disk_of, history_of, broken_of, world_of, IsReady};
+ghost use Rattle.ck_volume.specs.Engine.{disk_of, history_of, broken_of, world_of, IsReady, KeepsWorld};
 ghost use Rattle.ck_volume.specs.Told.{told_of};
 
 use crate::Volume;
@@ -15,6 +16,7 @@ pub(crate) fn begun<D: Disk>(engine: Engine<D>) -> Volume<D>
     requires none { history_of engine ≡ [] }
     requires unbroken { broken_of engine ≡ None }
     requires recovers { IsTrue (D.means (disk_of engine)).tells → Recovers (D.means (disk_of engine)).shows (world_of (D.means (disk_of engine)).shows engine) }
+    requires kept { IsTrue (D.means (disk_of engine)).tells → KeepsWorld (D.means (disk_of engine)) engine (unmounted (world_of (D.means (disk_of engine)).shows engine)) }
     ensures engine { result.engine ≡ engine }
     ensures origin { result.origin.value ≡ disk_of engine }
     ensures committed { result.committed.value ≡ 0 }

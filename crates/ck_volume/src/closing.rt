@@ -54,6 +54,10 @@ impl<D: Disk> Engine<D> {
         // A crash at any moment of it leaves the world that was committed before, or the present one.
         ensures survives { broken_of self.old ≡ None → Survives (D.means (disk_of self.old)) (D.means (disk_of self.new)) self.old }
 
+        // Where it isn't broken afterwards, one of the two is committed.
+        ensures kept { broken_of self.new ≡ None → IsTrue (D.means (disk_of self.old)).tells → (w : World) → KeepsWorld (D.means (disk_of self.old)) self.old w
+            → KeepsWorld (D.means (disk_of self.new)) self.new w ⊎ KeepsWorld (D.means (disk_of self.new)) self.new (unmounted (world_of (D.means (disk_of self.old)).shows self.old)) }
+
         // Afterwards it leaves the present world, and nothing beside it.
         ensures committed { result ≡ answer.Done → IsTrue (D.means (disk_of self.old)).tells → (w : World) → KeepsWorld (D.means (disk_of self.old)) self.old w
             → KeepsWorld (D.means (disk_of self.new)) self.new (unmounted (world_of (D.means (disk_of self.new)).shows self.new)) }

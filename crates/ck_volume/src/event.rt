@@ -6,6 +6,7 @@ ghost use Rattle.ck_model.specs.Streams.{Texts};
 ghost use Rattle.ck_model.specs.World.{World, unmounted};
 ghost use Rattle.ck_model.specs.History.{CallsBy, is_fault, is_write_fault, is_broken};
 ghost use Rattle.ck_volume.specs.Built.{IsBuilt};
+ghost use Rattle.ck_volume.specs.Cuts.{SurvivesOnTheWay, KeepsOnTheWay};
 ghost use Rattle.ck_volume.specs.Freezing.{Freezes};
 ghost use Rattle.ck_volume.specs.declared.event.Turn.TheVariants.{Answered};
 ghost use Rattle.ck_volume.specs.declared.event.Progress.TheVariants.{Fresh};
@@ -110,10 +111,11 @@ impl<D: Disk> Engine<D> {
         ensures cause { HasCause (D.means (disk_of self.old)) (D.means (disk_of self.new)) (newest (history_of self.new)).reply }
         ensures runs { Runs (D.means (disk_of self.old)) (D.means (disk_of self.new)) }
 
-        // A crash at any moment of it leaves the world that was committed before, or the present one from before it.
-        ensures survives { broken_of self.old ≡ None → Survives (D.means (disk_of self.old)) (D.means (disk_of self.new)) self.old }
+        // A crash at any moment of it leaves the world that was committed before, or the present one from before it, without
+        // some of the picks that its entry gave up.
+        ensures survives { broken_of self.old ≡ None → SurvivesOnTheWay (newest (history_of self.new)).given (D.means (disk_of self.old)) (D.means (disk_of self.new)) self.old }
         ensures kept { broken_of self.new ≡ None → IsTrue (D.means (disk_of self.old)).tells → (w : World) → KeepsWorld (D.means (disk_of self.old)) self.old w
-            → KeepsWorld (D.means (disk_of self.new)) self.new w ⊎ KeepsWorld (D.means (disk_of self.new)) self.new (unmounted (world_of (D.means (disk_of self.old)).shows self.old)) }
+            → KeepsOnTheWay (newest (history_of self.new)).given (D.means (disk_of self.new)) self.new w (world_of (D.means (disk_of self.old)).shows self.old) }
 
         // A sync that is answered without a fault has committed every entry up to itself.
         ensures synced { call.now ≡ Sync → is_fault (newest (history_of self.new)).reply ≡ false → IsTrue (D.means (disk_of self.old)).tells → (w : World) → KeepsWorld (D.means (disk_of self.old)) self.old w

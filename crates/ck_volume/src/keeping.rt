@@ -1,12 +1,11 @@
-ghost use Rattle.std.specs.Prelude.{◌≡◌, ◌≢◌, ◌<◌, ◌≤◌, ◌+◌, ◌^◌, ◌++◌, ◌∷◌, [], ◌⊎◌, ℕ, false, Some, None, IsTrue, IsOk, IsSome, IfOk, IfErr, OnOk, OnErr, MatchOption, if◌then◌else◌, is_some, slice_get};
+ghost use Rattle.std.specs.Prelude.{◌≡◌, ◌≢◌, ◌<◌, ◌≤◌, ◌+◌, ◌^◌, ◌++◌, ◌∷◌, [], ℕ, false, Some, None, IsTrue, IsOk, IsSome, IfOk, IfErr, OnOk, OnErr, MatchOption, if◌then◌else◌, is_some, slice_get};
 ghost use Rattle.std.specs.Option.{option_or};
 ghost use Rattle.ck_disk.specs.Disk.{Image, Rose};
 ghost use Rattle.ck_log.specs.Layout.{IsSized};
-ghost use Rattle.ck_model.specs.declared.call.Call.TheVariants.{Sync};
 ghost use Rattle.ck_model.specs.declared.reply.Reply.TheVariants as reply;
 ghost use Rattle.ck_model.specs.Streams.{Texts};
-ghost use Rattle.ck_model.specs.World.{World, unmounted};
-ghost use Rattle.ck_model.specs.History.{CallsBy, is_fault, is_write_fault, is_broken};
+ghost use Rattle.ck_model.specs.World.{unmounted};
+ghost use Rattle.ck_model.specs.History.{CallsBy, is_write_fault, is_broken};
 ghost use Rattle.ck_volume.specs.declared.closing.CommitAnswer.TheVariants as answer;
 ghost use Rattle.ck_volume.specs.declared.event.Turn.TheVariants.{Answered};
 ghost use Rattle.ck_volume.specs.declared.event.Progress.TheVariants.{Fresh};
@@ -17,7 +16,7 @@ ghost use Rattle.ck_volume.specs.Exact.{IsExact};
 ghost use Rattle.ck_volume.specs.Formatting.{IsFormatFault};
 ghost use Rattle.ck_volume.specs.Freezing.{Freezes};
 ghost use Rattle.ck_volume.specs.Opening.{IsOpenFault};
-ghost use Rattle.ck_volume.specs.Volume.{disk_of, origin_of, table_of, mounts_of, history_of, room_of, length_of, committed_of, spoilt_of, told_of, broken_of, world_of, past_on, newest, KeepsWorld, Runs, Survives, Follows, HasCause, IsEntryOf, KeepsAllButRoom, Stands, IsKept, IsOpened, IsFormatted};
+ghost use Rattle.ck_volume.specs.Volume.{disk_of, origin_of, table_of, mounts_of, history_of, room_of, length_of, committed_of, spoilt_of, told_of, broken_of, world_of, past_on, newest, Runs, Follows, HasCause, IsEntryOf, KeepsAllButRoom, Stands, LeavesCuts, IsKept, IsOpened, IsFormatted};
 
 use crate::beginning::begun;
 use crate::engine::Engine;
@@ -148,14 +147,8 @@ impl<D: Disk> Volume<D> {
         ensures told { told_of self.new ≡ told_of self.old ++ call.now ∷ [] }
         ensures stands { Stands D.means self.new }
 
-        // A crash at any moment of it leaves the world that was committed before, or the present one from before it.
-        ensures survives { broken_of self.old ≡ None → Survives (D.means (disk_of self.old)) (D.means (disk_of self.new)) self.old }
-        ensures kept { broken_of self.new ≡ None → IsTrue (D.means (disk_of self.old)).tells → (w : World) → KeepsWorld (D.means (disk_of self.old)) self.old w
-            → KeepsWorld (D.means (disk_of self.new)) self.new w ⊎ KeepsWorld (D.means (disk_of self.new)) self.new (unmounted (world_of (D.means (disk_of self.old)).shows self.old)) }
-
-        // A sync that is answered without a fault has committed every entry up to itself.
-        ensures synced { call.now ≡ Sync → is_fault (newest (history_of self.new)).reply ≡ false → IsTrue (D.means (disk_of self.old)).tells → (w : World) → KeepsWorld (D.means (disk_of self.old)) self.old w
-            → KeepsWorld (D.means (disk_of self.new)) self.new (unmounted (world_of (D.means (disk_of self.new)).shows self.new)) }
+        // Each image that a crash may have left recovers a cut of the history, and each one now a cut with what was committed.
+        ensures cuts { ∥ LeavesCuts D.means self.new ∥₁ }
     {
         let turn = self.engine.event(alloc, actor, seq, at, call, progress);
         self.told = self.told.more(call);
@@ -188,13 +181,11 @@ impl<D: Disk> Volume<D> {
         ensures told { told_of self.new ≡ told_of self.old }
         ensures stands { Stands D.means self.new }
 
-        // A crash at any moment of it leaves the world that was committed before, or the present one.
-        ensures survives { broken_of self.old ≡ None → Survives (D.means (disk_of self.old)) (D.means (disk_of self.new)) self.old }
+        // Each image that a crash may have left recovers a cut of the history, and each one now a cut with what was committed.
+        ensures cuts { ∥ LeavesCuts D.means self.new ∥₁ }
 
-        // Afterwards it leaves the present world, and nothing beside it.
-        ensures committed { result ≡ answer.Done → IsTrue (D.means (disk_of self.old)).tells → (w : World) → KeepsWorld (D.means (disk_of self.old)) self.old w
-            → KeepsWorld (D.means (disk_of self.new)) self.new (unmounted (world_of (D.means (disk_of self.new)).shows self.new)) }
-        ensures exact { result ≡ answer.Done → IsTrue (D.means (disk_of self.old)).tells → (w : World) → KeepsWorld (D.means (disk_of self.old)) self.old w
+        // Afterwards a crash leaves the present world, and nothing beside it.
+        ensures exact { result ≡ answer.Done → IsTrue (D.means (disk_of self.old)).tells
             → (image : Image) → (D.means (disk_of self.new)).may_leave image → IsExact (unmounted (world_of (D.means (disk_of self.new)).shows self.new)) image }
     {
         let answer = self.engine.commit(alloc);

@@ -2,8 +2,9 @@ ghost use Rattle.std.specs.Prelude.{◌≡◌, ◌≤◌, None};
 ghost use Rattle.std.specs.Option.{option_or};
 ghost use Rattle.std.proofs.Props.{props};
 ghost use Rattle.ck_volume.specs.Causes.{HasCauses};
+ghost use Rattle.ck_volume.specs.Cuts.{LeavesCuts};
 ghost use Rattle.ck_volume.specs.Engine.{disk_of, history_of, length_of, broken_of, IsReady, Runs};
-ghost use Rattle.ck_volume.specs.Kept.{broken_by, Stands};
+ghost use Rattle.ck_volume.specs.Kept.{broken_by, BreaksFrom, Stands};
 ghost use Rattle.ck_volume.specs.Told.{told_of};
 
 use crate::engine::Engine;
@@ -28,6 +29,8 @@ pub struct Volume<D: Disk> {
     ghost later: { Runs (D.means origin.value) (D.means (disk_of engine)) },
     ghost causes: { HasCauses (D.means origin.value) (D.means (disk_of engine)) (history_of engine) },
     ghost breaks: { broken_of engine ≡ option_or (broken_by 0 None (history_of engine)) spoilt.value } by { Prim.hlevel props },
+    ghost replies: { ∥ BreaksFrom 0 None (history_of engine) ∥₁ },
     ghost stands: { ∥ Stands (D.means origin.value) (D.means (disk_of engine)) (told_of told) engine ∥₁ },
     ghost within: { committed.value ≤ length_of engine },
+    ghost cuts: { ∥ LeavesCuts (D.means origin.value) (D.means (disk_of engine)) (told_of told) committed.value engine ∥₁ },
 }

@@ -1,17 +1,18 @@
-use Rattle.std.proofs.Common.{◌≡◌, IsTrue, ap, subst}
+use Rattle.std.proofs.Common.{◌≡◌, ap}
 use Rattle.ck_disk.specs.Disk.{Meaning}
 use Rattle.ck_model.specs.Standing.{world_on}
 use Rattle.ck_model.specs.World.{World, unmounted}
 use Rattle.ck_script.specs.Reading.{Parsed}
 use Rattle.ck_volume.specs.Device.{store_on}
 use Rattle.ck_volume.specs.Volume.{disk_of, world_of, data_of, table_of}
+use Rattle.ck_volume.proofs.StandsLemmas.{opened-recovers}
 use Rattle.ck_admin.proofs.TopLemmas.{ends_opened}
 use Rattle.ck_admin.proofs.command.play_script.Goals as goal
 
-pub play_volume-requires-clause-kept : goal.play_volume-requires-clause-kept
-play_volume-requires-clause-kept g c =
-    let opened = c.in-Ok-open.ensures.opened in
-    λ told. opened.kept (subst IsTrue opened.any_moment.tells told)
+pub play_volume-requires-clause-recovers : goal.play_volume-requires-clause-recovers
+play_volume-requires-clause-recovers g c =
+    let volume = c.in-Ok-open.volume in
+    opened-recovers (g.D.Disk.means c.args.disk) (g.D.Disk.means (disk_of volume)) volume.engine (g.met.D.Disk.lawful (disk_of volume)) c.in-Ok-open.ensures.opened
 
 pub returns-in-Ok-open-clause-ends : goal.returns-in-Ok-open-clause-ends
 returns-in-Ok-open-clause-ends g c =

@@ -1,8 +1,9 @@
-use Rattle.std.proofs.Common.{List, inr, sym, subst}
-use Rattle.ck_disk.specs.Disk.{Meaning}
+use Rattle.std.proofs.Common.{◌≡◌, List, inl, inr, refl, sym, ◌∙◌, subst}
+use Rattle.ck_disk.specs.Disk.{Meaning, LeavesOnly}
 use Rattle.ck_model.specs.declared.entry.Entry.{Entry}
 use Rattle.ck_script.specs.Numbered.{calls_in}
 use Rattle.ck_volume.specs.Volume.{disk_of, world_of}
+use Rattle.ck_volume.proofs.CommittedLemmas.{leaves_start}
 use Rattle.ck_admin.specs.Crash.{IsPlayed}
 use Rattle.ck_admin.specs.Ending.{EndsOn}
 use Rattle.ck_admin.proofs.command.play_volume.Goals as goal
@@ -27,3 +28,13 @@ returns-clause-ends g c =
       fault = rw c.deref.ensures.value at c.print-printed.ensures.fault;
       status_is = c.status_of.ensures;
     }))
+
+pub returns-in_default-clause-ends : goal.returns-in_default-clause-ends
+returns-in_default-clause-ends g c =
+    let mid : Meaning = g.D.Disk.means (disk_of c.args.volume) in
+    let same : c.close-disk.result.disk ≡ disk_of c.args.volume = c.close-disk.ensures.disk ∙ c.in_default.ensures.refused in
+    inl (record {
+      status_is = refl;
+      nothing = λ told. refl;
+      left = subst (λ (d : g.row.D.Denot). LeavesOnly mid (g.D.Disk.means d) mid.may_leave) (sym same) (leaves_start mid mid.may_leave (g.met.D.Disk.lawful (disk_of c.args.volume)) (λ image left. left));
+    })

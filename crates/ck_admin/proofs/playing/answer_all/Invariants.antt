@@ -1,15 +1,18 @@
 use Rattle.std.proofs.Common.{◌≡◌, ◌≤◌, ◌+◌, None, length}
 use Rattle.ck_model.specs.History.{call_at}
 use Rattle.ck_script.specs.Numbered.{calls_in}
-use Rattle.ck_volume.specs.Volume.{past_on, history_of, room_of, spoilt_of, world_of}
-use Rattle.ck_admin.proofs.CrashLemmas.{IsSafeSoFar}
+use Rattle.ck_volume.specs.Volume.{history_of, room_of, spoilt_of, committed_of, told_of, origin_of}
+use Rattle.ck_volume.specs.Told.{AreAnswered}
+use Rattle.ck_admin.specs.Crash.{synced_count}
 use Rattle.ck_admin.proofs.PlayLemmas.{IsSoFar}
 use Rattle.ck_admin.proofs.playing.answer_all.Given as goal
 
 abbrev pub invariant-loop-line : goal.invariant-loop-line
 invariant-loop-line g l = record {
-  so_far : IsSoFar l.lines (g.C.Clock.means l.initial.clock) (world_of (g.D.Disk.means l.initial.volume.engine.disk).shows l.initial.volume) (g.D.Disk.means l.initial.volume.engine.disk) (g.D.Disk.means l.volume.engine.disk) l.line-index (past_on (g.D.Disk.means l.volume.engine.disk).shows l.volume) (history_of l.volume);
-  safe : IsSafeSoFar (call_at (calls_in l.lines)) (world_of (g.D.Disk.means l.initial.volume.engine.disk).shows l.initial.volume) (g.D.Disk.means l.initial.volume.engine.disk) (g.D.Disk.means l.volume.engine.disk) (history_of l.volume) l.volume;
+  so_far : IsSoFar l.lines (g.C.Clock.means l.initial.clock) l.line-index (history_of l.volume);
+  answered : AreAnswered (call_at (calls_in l.lines)) (told_of l.volume) (history_of l.volume);
+  synced : synced_count (call_at (calls_in l.lines)) (history_of l.volume) ≤ committed_of l.volume;
+  origin : origin_of l.volume ≡ origin_of l.initial.volume;
   unspoilt : spoilt_of l.volume ≡ None;
   clock : g.C.Clock.means l.clock ≡ g.C.Clock.means l.initial.clock;
   room : length l.lines ≤ l.line-index + room_of l.volume;

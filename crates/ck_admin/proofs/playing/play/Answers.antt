@@ -1,12 +1,8 @@
-use Rattle.std.proofs.Common.{◌≡◌, List, length, ap, subst, arith}
+use Rattle.std.proofs.Common.{◌≡◌, List, length, ap, arith}
 use Rattle.ck_model.specs.declared.entry.Entry.{Entry}
-use Rattle.ck_model.specs.History.{call_at}
 use Rattle.ck_script.specs.declared.line.Line.{Line}
-use Rattle.ck_script.specs.Numbered.{calls_in}
-use Rattle.ck_volume.specs.Volume.{disk_of, history_of, length_of, world_of}
-use Rattle.ck_volume.proofs.Reserved.{begun-reserved, kept-reserved, shown-reserved}
-use Rattle.ck_admin.specs.Crash.{LeavesVolume}
-use Rattle.ck_admin.specs.Play.{IsPlay}
+use Rattle.ck_volume.specs.Volume.{length_of}
+use Rattle.ck_volume.proofs.Reserved.{begun-reserved}
 use Rattle.ck_admin.proofs.playing.play.Goals as goal
 
 pub reserve-requires : goal.reserve-requires
@@ -17,20 +13,3 @@ reserve-requires g c =
 
 pub answer_all-requires-clause-begun : goal.answer_all-requires-clause-begun
 answer_all-requires-clause-begun g c = begun-reserved g.D.Disk.means c.args.volume.now c.reserve.new.self c.reserve.ensures.rest c.requires.begun
-
-pub answer_all-requires-clause-kept : goal.answer_all-requires-clause-kept
-answer_all-requires-clause-kept g c = kept-reserved g.D.Disk.means c.args.volume.now c.reserve.new.self c.reserve.ensures.rest c.requires.kept
-
-pub returns-clause-play : goal.returns-clause-play
-returns-clause-play g c =
-    let after = c.answer_all.new.volume in
-    shown-reserved g.D.Disk.means c.args.volume.now c.reserve.new.self c.reserve.ensures.rest
-    (λ disk shown. IsPlay (calls_in c.args.script.now.calls) (g.C.Clock.means c.args.clock.now) (shown (g.D.Disk.means disk).shows) (g.D.Disk.means disk) (g.D.Disk.means (disk_of after)) (history_of after))
-    c.answer_all.ensures.play
-
-pub returns-clause-leaves : goal.returns-clause-leaves
-returns-clause-leaves g c =
-    let after = c.answer_all.new.volume in
-    shown-reserved g.D.Disk.means c.args.volume.now c.reserve.new.self c.reserve.ensures.rest
-    (λ disk shown. LeavesVolume (call_at (calls_in c.args.script.now.calls)) (shown (g.D.Disk.means disk).shows) (g.D.Disk.means disk) (g.D.Disk.means (disk_of after)) (history_of after) after)
-    c.answer_all.ensures.leaves

@@ -1,4 +1,4 @@
-use Rattle.std.proofs.Common.{◌≡◌, ℕ, ◌∷◌, ◌++◌, [], Option, Some, None, MatchOption, IsSome, if◌then◌else◌, false, sym, ap, subst, ◌∙◌, rules}
+use Rattle.std.proofs.Common.{◌≡◌, inl, inr, ⊎_elim, arith, ℕ, ◌∷◌, ◌++◌, [], Option, Some, None, MatchOption, IsSome, if◌then◌else◌, false, sym, ap, subst, ◌∙◌, rules}
 use Rattle.std.specs.Option.{option_or}
 use mathlib.Core.Bool.{false≢true}
 use Rattle.ck_history.specs.History.{entries_of}
@@ -6,13 +6,23 @@ use Rattle.ck_history.specs.declared.history.History.{History}
 use Rattle.ck_model.specs.declared.entry.Entry.{Entry}
 use Rattle.ck_model.specs.declared.reply.Reply.{Reply}
 use Rattle.ck_model.specs.declared.reply.Reply.TheVariants.{Broken}
-use Rattle.ck_model.specs.World.{World}
+use Rattle.ck_model.specs.World.{World, unmounted}
 use Rattle.ck_model.specs.History.{created_id, is_fault, is_write_fault, is_broken}
-use Rattle.ck_volume.specs.Engine.{HasCause, history_of, length_of, newest, world_of}
+use Rattle.ck_volume.specs.Engine.{HasCause, KeepsWorld, history_of, length_of, newest, world_of}
+use Rattle.ck_volume.proofs.CutsAfter.{survives-plain}
 use Rattle.ck_volume.proofs.Following.{newest-put, added-put, longer-put, is-entry, broken-cause, broken-put, answered-put}
 use Rattle.ck_volume.proofs.engine.Engine.event.Goals as goal
 
+no_one : (o : Option ℕ) (n : ℕ) → o ≡ Some n → o ≡ None → ⊥
+no_one o n some none = cc
+
 -- ---- on a broken volume
+
+pub returns-in-Some-clause-survives : goal.returns-in-Some-clause-survives
+returns-in-Some-clause-survives g c = λ none. absurd (no_one c.args.self.now.broken c.in-Some.entry c.in-Some.is none)
+
+pub returns-in-Some-clause-kept : goal.returns-in-Some-clause-kept
+returns-in-Some-clause-kept g c = λ none. absurd (no_one c.args.self.now.broken c.in-Some.entry c.in-Some.is none)
 
 pub returns-in-Some-clause-added : goal.returns-in-Some-clause-added
 returns-in-Some-clause-added g c =
@@ -75,6 +85,21 @@ returns-in-Some-clause-freezes g c = λ name nodata removable is_create created.
     absurd (false≢true (subst IsSome (ap created_id replied) created))
 
 -- ---- where it was answered
+
+pub returns-clause-survives : goal.returns-clause-survives
+returns-clause-survives g c = λ whole.
+    let after = entries_of c.put-2.new.self in
+    survives-plain (newest after).given (g.D.Disk.means c.args.self.now.disk) (g.D.Disk.means c.answer-reply.new.self.disk) c.args.self.now c.answer-reply.ensures.survives
+
+pub returns-clause-kept : goal.returns-clause-kept
+returns-clause-kept g c = λ unbroken told w keeps.
+    let middle = c.answer-reply.new.self in
+    let new = g.D.Disk.means middle.disk in
+    let present : World = world_of (g.D.Disk.means c.args.self.now.disk).shows c.args.self.now in
+    ⊎_elim
+    (λ (same : KeepsWorld new middle w). inl (record { table = same.table; committed = same.committed }))
+    (λ (last : KeepsWorld new middle (unmounted present)). inr (0, (omega arith, record { table = last.table; committed = last.committed })))
+    (c.answer-reply.ensures.kept unbroken told w keeps)
 
 pub returns-clause-added : goal.returns-clause-added
 returns-clause-added g c =

@@ -1,6 +1,6 @@
-use Rattle.ck_volume.specs.Engine.{disk_of}
+use Rattle.ck_volume.specs.Engine.{disk_of, history_of}
 use Rattle.ck_volume.specs.Told.{told_of}
-use Rattle.ck_volume.proofs.StoodLemmas.{stood}
+use Rattle.ck_volume.proofs.StoodLemmas.{stood, breaks-known}
 use Rattle.ck_volume.proofs.volume.Volume.close.Goals as goal
 
 pub returns-clause-kept : goal.returns-clause-kept
@@ -11,6 +11,8 @@ returns-clause-kept g c =
       runs = volume.later;
       causes = volume.causes;
       breaks = volume.breaks;
+      replies = breaks-known (history_of volume.engine) volume.replies;
       stands = stood (means volume.origin.value) (means (disk_of volume.engine)) (told_of volume.told) volume.engine volume.stands;
       within = volume.within;
+      cuts = volume.cuts;
     }

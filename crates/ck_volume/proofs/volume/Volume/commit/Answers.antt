@@ -1,13 +1,16 @@
-use Rattle.std.proofs.Common.{◌≡◌, ◌≤◌, ℕ, List, None, length, sym, ap, subst, ◌∙◌}
+use Rattle.std.proofs.Common.{◌≡◌, ◌≤◌, ℕ, List, None, length, is_some, IsTrue, sym, ap, subst, ◌∙◌}
 use Rattle.std.specs.Option.{option_or}
 use mathlib.Core.Logic.{∥∥₁_map}
 use Rattle.ck_model.specs.declared.entry.Entry.{Entry}
+use Rattle.ck_model.specs.World.{unmounted}
 use Rattle.ck_volume.specs.Causes.{HasCauses}
 use Rattle.ck_volume.specs.Closing.{committed_after, spoilt_after}
-use Rattle.ck_volume.specs.Engine.{disk_of, history_of, broken_of}
-use Rattle.ck_volume.specs.Kept.{broken_by}
+use Rattle.ck_volume.specs.Engine.{disk_of, history_of, broken_of, world_of}
+use Rattle.ck_volume.specs.Kept.{broken_by, BreaksFrom}
 use Rattle.ck_volume.specs.Told.{told_of}
 use Rattle.ck_volume.proofs.CausesLemmas.{causes-still, runs-more}
+use Rattle.ck_volume.proofs.CutsAfter.{cuts-commit, unbroken-done}
+use Rattle.ck_volume.proofs.ExactKnown.{exact-known}
 use Rattle.ck_volume.proofs.StandsLemmas.{breaks-commit, within-commit, stands-still}
 use Rattle.ck_volume.proofs.StoodLemmas.{stood}
 use Rattle.ck_volume.proofs.Untruncated.{untruncated}
@@ -39,13 +42,20 @@ invariant_of-self g c =
     ∙ breaks-commit (broken_by 0 None old) volume.spoilt.value (broken_of volume.engine) (length old) answer volume.breaks commit.refused
     ∙ ap (λ o. option_or (broken_by 0 None old) o) (sym noted) in
     let within : c.note_commit.new.committed.value ≤ length old = subst (λ (n : ℕ). n ≤ length old) (sym counted) (within-commit volume.committed.value (length old) answer volume.within) in
+    let noted_all : c.note_commit.new.committed.value ≡ committed_after (length (history_of after)) volume.committed.value answer =
+    c.note_commit.ensures ∙ ap (λ (n : ℕ). committed_after n volume.committed.value answer) c.length-answered.ensures in
     record {
       ready = ∣ commit.ready ∣₁;
       later = runs-more origin mid new volume.later commit.runs;
       causes = subst (λ (h : List Entry). HasCauses origin new h) (sym history) (causes-still origin mid new old volume.causes commit.runs);
       breaks = subst (λ (h : List Entry). broken_of after ≡ option_or (broken_by 0 None h) spoilt) (sym history) broken;
+      replies = subst (λ (h : List Entry). ∥ BreaksFrom 0 None h ∥₁) (sym history) volume.replies;
       stands = ∥∥₁_map volume.stands (λ stands. stands-still origin mid new (told_of volume.told) volume.engine after stands volume.later.tells history commit.world);
       within = subst (λ (h : List Entry). c.note_commit.new.committed.value ≤ length h) (sym history) within;
+      cuts = ∥∥₁_map volume.cuts
+          (λ cuts. cuts-commit origin mid new (g.met.D.Disk.lawful (disk_of after)) (told_of volume.told) volume.committed.value c.note_commit.new.committed.value volume.engine after cuts
+          (stood origin mid (told_of volume.told) volume.engine volume.stands) volume.within history commit.runs commit.world commit.survives commit.kept
+          (λ number is. ap means (commit.untouched (ap is_some is))) answer commit.broken commit.refused commit.committed noted_all);
     }
 
 pub returns-clause-stands : goal.returns-clause-stands
@@ -62,3 +72,17 @@ returns-clause-committed_entries g c = c.note_commit.ensures ∙ ap (λ (n : ℕ
 
 pub returns-clause-spoilt : goal.returns-clause-spoilt
 returns-clause-spoilt g c = c.note_spoilt.ensures ∙ ap (λ (n : ℕ). spoilt_after n c.args.self.now.spoilt.value c.commit-answer.result) c.length-answered.ensures
+
+pub returns-clause-exact : goal.returns-clause-exact
+returns-clause-exact g c = λ done told image left.
+    let volume = c.args.self.now in
+    let after = c.commit-answer.new.self in
+    let commit = c.commit-answer.ensures in
+    let new = g.D.Disk.means (disk_of after) in
+    let whole : broken_of volume.engine ≡ None = unbroken-done (broken_of volume.engine) c.commit-answer.result commit.refused done in
+    exact-known (unmounted (world_of new.shows after)) image (∥∥₁_map volume.cuts (λ cuts.
+    let kept = cuts.kept whole (subst IsTrue volume.later.tells told) in
+    commit.exact done told kept.world kept.keeps image left))
+
+pub returns-clause-cuts : goal.returns-clause-cuts
+returns-clause-cuts g c = (invariant_of-self g c.before).cuts

@@ -5,8 +5,9 @@ use Rattle.ck_model.specs.declared.entry.Entry.{Entry}
 use Rattle.ck_volume.specs.Causes.{HasCauses}
 use Rattle.ck_volume.specs.Engine.{disk_of, history_of, broken_of, world_of, Runs}
 use Rattle.ck_volume.specs.declared.engine.Engine.{Engine}
-use Rattle.ck_volume.specs.Kept.{broken_by}
+use Rattle.ck_volume.specs.Kept.{broken_by, BreaksFrom}
 use Rattle.ck_volume.specs.Told.{told_of}
+use Rattle.ck_volume.proofs.CutsReserved.{cuts-reserved}
 use Rattle.ck_volume.proofs.StandsLemmas.{stands-still}
 use Rattle.ck_volume.proofs.Reserved.{ready-reserved}
 use Rattle.ck_volume.proofs.volume.Volume.reserve.Goals as goal
@@ -25,7 +26,9 @@ invariant_of-self g c =
       causes = subst (λ (d : g.row.D.Denot). HasCauses (means volume.origin.value) (means d) (history_of after)) (sym disk)
           (subst (λ (h : List Entry). HasCauses (means volume.origin.value) (means (disk_of volume.engine)) h) (sym history) volume.causes);
       breaks = ap (λ (v : Engine g.row.D.Denot). broken_of v) rest ∙ volume.breaks ∙ ap (λ (h : List Entry). option_or (broken_by 0 None h) volume.spoilt.value) (sym history);
+      replies = subst (λ (h : List Entry). ∥ BreaksFrom 0 None h ∥₁) (sym history) volume.replies;
       stands = ∥∥₁_map volume.stands (λ stands. stands-still (means volume.origin.value) (means (disk_of volume.engine)) (means (disk_of after)) (told_of volume.told) volume.engine after stands volume.later.tells history
           (λ told. ap (λ (v : Engine g.row.D.Denot). world_of (means (disk_of v)).shows v) rest));
       within = subst (λ (h : List Entry). volume.committed.value ≤ length h) (sym history) volume.within;
+      cuts = ∥∥₁_map volume.cuts (λ cuts. cuts-reserved means volume.engine after (means volume.origin.value) (told_of volume.told) volume.committed.value c.reserve.ensures.rest cuts);
     }
