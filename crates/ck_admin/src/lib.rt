@@ -8,10 +8,6 @@ mod playing;
 mod print;
 mod read;
 mod refusal;
-#[cfg(test)]
-mod rows;
-#[cfg(test)]
-mod tests;
 
 pub use command::{Ended, top};
 pub use playing::play;

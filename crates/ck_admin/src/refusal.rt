@@ -58,22 +58,3 @@ pub fn bad_size(alloc: Global, needs: u32, has: u32) -> Result<Octets, NoMemory>
 {
     numbered_twice(alloc, b"BadSize", needs, has)
 }
-
-#[cfg(test)]
-mod tests {
-    use super::*;
-    use std::test::Fail;
-
-    #[test]
-    fn says_why(rt: HostRuntime) -> Result<(), Fail> {
-        let alloc = rt.alloc();
-        assert_eq!(rt; not_volume(alloc)?.items(), b"NotVolume".as_slice());
-        assert_eq!(rt; bad_format(alloc, 7)?.items(), b"BadFormat 7".as_slice());
-        assert_eq!(rt; damaged(alloc, 12, 1)?.items(), b"Damaged 12 1".as_slice());
-        assert_eq!(rt;
-            bad_size(alloc, 85, 84)?.items(),
-            b"BadSize 85 84".as_slice()
-        );
-        Ok(())
-    }
-}

@@ -6,6 +6,3 @@ mod blocks;
 mod words;
 
 pub use blocks::Blocks;
-
-#[cfg(test)]
-mod tests;

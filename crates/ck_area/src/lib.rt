@@ -19,6 +19,3 @@ pub use broken::first_damage;
 pub use forms::is_unbuilt;
 pub use reading::{read_block, slot_in};
 pub use writing::spell_block;
-
-#[cfg(test)]
-mod tests;

@@ -9,3 +9,6 @@ pub mod TidyLaws
 pub mod Moved
 pub mod Names
 pub mod SameValues
+pub mod KeyOrder
+pub mod FollowingLemmas
+pub mod KeysLeft

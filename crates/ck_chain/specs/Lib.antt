@@ -2,3 +2,4 @@ pub mod Needless
 pub mod Kept
 pub mod Naming
 pub mod Changes
+pub mod Following

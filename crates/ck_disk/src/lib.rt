@@ -6,8 +6,6 @@ mod file_disk;
 mod fuse_disk;
 mod mem_disk;
 mod memory;
-#[cfg(test)]
-mod tests;
 
 pub use disk::{Block, Disk, Failed};
 pub use file_disk::FileDisk;

@@ -4,6 +4,3 @@
 mod history;
 
 pub use history::History;
-
-#[cfg(test)]
-mod tests;

@@ -8,6 +8,3 @@ mod texts;
 mod top;
 
 pub use top::image_top;
-
-#[cfg(test)]
-mod tests;

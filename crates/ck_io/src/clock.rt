@@ -55,19 +55,3 @@ impl<R: rt::Clock + Drop> Clock for SystemClock<R> {
         }
     }
 }
-
-#[cfg(test)]
-mod tests {
-    use super::*;
-
-    fn moment<C: Clock + Send>(mut clock: C) -> u64 {
-        clock.now()
-    }
-
-    #[test]
-    fn gives_the_moment(rt: HostRuntime) {
-        assert_eq!(rt; moment(FixedClock { now: 100 }), 100);
-        assert!(rt; moment(SystemClock::new(rt)) > 1_500_000_000);
-        assert!(rt; moment(SystemClock::new(&rt)) > 1_500_000_000);
-    }
-}

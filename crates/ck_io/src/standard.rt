@@ -112,38 +112,3 @@ fn write_once<W: Write>(writer: &mut W, from: &[u8]) -> Option<usize>
     }
     None
 }
-
-#[cfg(test)]
-mod tests {
-    use super::*;
-    use crate::whole::write_all;
-    use std::io;
-
-    #[test]
-    fn gives_what_the_reader_gives(rt: HostRuntime) {
-        let mut piece = [0; 8];
-        let mut source = StdSource::new(b"text".as_slice());
-        assert_eq!(rt; source.read(&mut piece), Ok(4));
-        assert_eq!(rt; piece, *b"text\0\0\0\0");
-        assert_eq!(rt; source.read(&mut piece), Ok(0));
-        assert_eq!(rt; StdSource::new(rt.stdin()).read(&mut []), Ok(0));
-    }
-
-    #[test]
-    fn passes_bytes_on(rt: HostRuntime) {
-        let errors = rt.stderr();
-        let mut held = [0; 6];
-        let mut sink = StdSink::new(held.as_mut_slice());
-        assert_eq!(rt; write_all(&mut sink, b"text"), Ok(()));
-        assert_eq!(rt; write_all(&mut sink, b"text"), Err(Failed), "two bytes fit");
-        assert_eq!(rt;
-            write_all(&mut StdSink::new(io::writer(&rt)), b"out\n"),
-            Ok(())
-        );
-        assert_eq!(rt;
-            write_all(&mut StdSink::new(io::writer(&errors)), b"err\n"),
-            Ok(())
-        );
-        assert_eq!(rt; held, *b"textte");
-    }
-}

@@ -7,8 +7,6 @@ mod header;
 mod layout;
 mod region;
 mod setup;
-#[cfg(test)]
-mod tests;
 mod writes;
 
 pub use faults::{FormatLog, OpenLog};

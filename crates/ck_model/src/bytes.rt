@@ -71,18 +71,3 @@ impl PartialEq for Octets {
 impl Eq for Octets {
     ghost laws = { Prim.search (comparing, rules) };
 }
-
-#[cfg(test)]
-mod tests {
-    use super::*;
-    use std::test::Fail;
-
-    #[test]
-    fn appends(rt: HostRuntime) -> Result<(), Fail> {
-        let mut octets = Octets::of(vec![in rt.alloc(); 1, 2]?);
-        octets.append(&[3, 4, 5])?;
-        octets.append(&[])?;
-        assert_eq!(rt; octets.items(), [1, 2, 3, 4, 5].as_slice());
-        Ok(())
-    }
-}

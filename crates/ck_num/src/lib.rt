@@ -67,6 +67,3 @@ pub fn put_u64(bytes: &mut [u8], at: usize, value: u64)
 {
     bytes[at..at + 8].copy_from_slice(&value.to_be_bytes());
 }
-
-#[cfg(test)]
-mod tests;

@@ -57,6 +57,3 @@ fn is_spelled(value: &Record, bytes: &[u8; 128]) -> bool
     encode(value, &mut spelled);
     spelled == *bytes
 }
-
-#[cfg(test)]
-mod tests;

@@ -9,8 +9,6 @@ mod put;
 mod standard_error;
 mod status;
 mod story;
-#[cfg(test)]
-mod tests;
 mod words;
 
 pub use laws::texts_tell;

@@ -15,8 +15,6 @@ mod parser;
 mod parts;
 mod script;
 mod tally;
-#[cfg(test)]
-mod tests;
 mod turns;
 mod words;
 

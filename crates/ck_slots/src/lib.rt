@@ -15,6 +15,3 @@ mod writing;
 
 pub use opening::OpenSlots;
 pub use table::{CommitFault, Slots};
-
-#[cfg(test)]
-mod tests;

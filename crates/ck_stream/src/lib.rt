@@ -28,6 +28,3 @@ pub use stream::{Changed, Full, Stream, Summary};
 pub use tag::Header;
 pub use verifying::verify_stream;
 pub use writing::{write_changed, write_full};
-
-#[cfg(test)]
-mod tests;

@@ -8,6 +8,3 @@ mod numbers;
 pub use blanks::words;
 pub use hexadecimal::{hex_bytes, put_hex};
 pub use numbers::{decimal, put_decimal};
-
-#[cfg(test)]
-mod tests;

@@ -23,11 +23,12 @@ use Rattle.ck_model.specs.Table.{Table, IsTable}
 use Rattle.ck_model.specs.Chain.{value_at}
 use Rattle.ck_model.proofs.CellsLemmas.{tied-is}
 use Rattle.ck_model.proofs.Filesets.{all_found}
-use Rattle.ck_tree.specs.Following.{is_behind, is_before, IsNext}
+use Rattle.ck_chain.specs.Following.{is_before, IsNext}
+use Rattle.ck_chain.proofs.KeyOrder.{is_behind}
 use Rattle.ck_tree.specs.Listing.{child_at, least_name}
 use Rattle.ck_tree.specs.Standing.{StandsFor}
-use Rattle.ck_tree.proofs.KeyOrder.{same_or_before}
-use Rattle.ck_tree.proofs.FollowingLemmas.{true_or_false}
+use Rattle.ck_chain.proofs.KeyOrder.{same_or_before}
+use Rattle.ck_chain.proofs.FollowingLemmas.{true_or_false}
 use Rattle.ck_tree.proofs.StandingLemmas.{value_key}
 use Rattle.ck_tree.proofs.ListingLemmas.{left, left_next, none_before, none_left, Skips}
 
@@ -94,7 +95,7 @@ module _ (t : Table) (fs : ℕ) (cells : Cells) (lawful : IsTable t) (stands : S
       not_child cells node key cell (true_or_false (is_name_in node key) (λ inside. false≢true (sym (not_least node key (value_key t lawful fs key (valued key cell found)) inside) ∙ low)))))
 
   -- what was found at a name and what is left at the next are what was left
-  pub children_next : (key : Key) (next : Option Key) → is_name_in node key ≡ true → IsNext t passes key next → (found : List Child)
+  pub children_next : (key : Key) (next : Option Key) → is_name_in node key ≡ true → IsNext t passes (Some key) next → (found : List Child)
       → found ++ filter_map (left (child_in cells node) (Some key)) (map.entries cells) ≡ children cells node
       → (found ++ option_to_list (child_at cells key)) ++ filter_map (left (child_in cells node) next) (map.entries cells) ≡ children cells node
   children_next key next inside is found so_far =
@@ -118,7 +119,7 @@ module _ (t : Table) (fs : ℕ) (cells : Cells) (lawful : IsTable t) (stands : S
   none_first q inside low = true_or_false (map.contains_key cells q) (λ there.
       false≢true (sym (not_least node q (value_key t lawful fs q (sym (stands.present q) ∙ there)) inside) ∙ low))
 
-  pub none_next : (key : Key) (next : Option Key) → IsNext t passes key next → map.contains_key cells key ≡ false → NoneBefore (Some key) → NoneBefore next
+  pub none_next : (key : Key) (next : Option Key) → IsNext t passes (Some key) next → map.contains_key cells key ≡ false → NoneBefore (Some key) → NoneBefore next
   none_next key next is missing none q inside early =
       elim (is_behind key q) as (λ b. is_behind key q ≡ b → map.contains_key cells q ≡ false) [
         | true ↦ λ behind. stands.present q ∙ both_false (is_name_in node q) (is_some (value_at t fs q)) inside (is.between q behind early)

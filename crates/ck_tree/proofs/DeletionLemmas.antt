@@ -24,12 +24,12 @@ use Rattle.ck_model.proofs.ValuesOf.{is_among}
 use Rattle.ck_model.proofs.Filesets.{all_found}
 use Rattle.ck_model.proofs.Rows.{head_of, row_of, find-row_of, is_sorted-row_of}
 use Rattle.ck_chain.specs.Changes.{deletions_first, key_of}
-use Rattle.ck_tree.specs.Following.{is_behind}
+use Rattle.ck_chain.proofs.KeyOrder.{is_behind}
 use Rattle.ck_tree.specs.Plan.{with_changes, Differ}
 use Rattle.ck_tree.specs.Removing.{is_block_from, blocks_from, deletions, file_keys}
 use Rattle.ck_tree.specs.Standing.{StandsFor}
-use Rattle.ck_tree.proofs.KeyOrder.{behind-itself}
-use Rattle.ck_tree.proofs.FollowingLemmas.{keys-row, filter-keys, among-passing}
+use Rattle.ck_chain.proofs.KeyOrder.{behind-itself}
+use Rattle.ck_chain.proofs.FollowingLemmas.{keys-row, filter-keys, among-passing}
 use Rattle.ck_tree.proofs.ListingLemmas.{true_of}
 
 -- ---- the map

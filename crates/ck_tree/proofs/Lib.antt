@@ -1,7 +1,4 @@
 pub mod Asking
-pub mod KeyOrder
-pub mod FollowingLemmas
-pub mod KeysLeft
 pub mod StandingLemmas
 pub mod ListingLemmas
 pub mod ChildrenLemmas

@@ -12,8 +12,9 @@ use Rattle.ck_model.specs.Key.{key_cmp, key_cmp_total, key_cmp_exact}
 use Rattle.ck_model.specs.Table.{Table}
 use Rattle.ck_model.proofs.Rows.{head_of, both_of}
 use Rattle.ck_model.proofs.Filesets.{not_below}
-use Rattle.ck_tree.specs.Following.{is_behind, is_before, IsNext}
-use Rattle.ck_tree.proofs.KeyOrder.{behind-itself, behind-trans, behind-once}
+use Rattle.ck_chain.specs.Following.{is_before, IsNext}
+use Rattle.ck_chain.proofs.KeyOrder.{is_behind}
+use Rattle.ck_chain.proofs.KeyOrder.{behind-itself, behind-trans, behind-once}
 
 pub true_of : (b : Bool) → T b → b ≡ true
 true_of true h = refl
@@ -56,7 +57,7 @@ module _ {X Y : Type 0} (f : Key × X → Option Y) (passes : Key → Bool) wher
   abbrev pub Skips : Key × X → Type 0
   Skips e = passes e.0 ≡ false → f e ≡ None
 
-  same_behind : (t : Table) (key : Key) (next : Option Key) → IsNext t passes key next → (es : List (Key × X)) → T (below_all key_cmp key es) → AllByRecursion Skips es
+  same_behind : (t : Table) (key : Key) (next : Option Key) → IsNext t passes (Some key) next → (es : List (Key × X)) → T (below_all key_cmp key es) → AllByRecursion Skips es
       → filter_map (left f (Some key)) es ≡ filter_map (left f next) es
   same_behind t key next is [] below skips = refl
   same_behind t key next is (e ∷ es) below skips =
@@ -71,16 +72,16 @@ module _ {X Y : Type 0} (f : Key × X → Option Y) (passes : Key → Bool) wher
       (λ i. cons_option ((here ∙ sym there) i) (rest i))
 
   -- a key at which nothing is left any more
-  early : (t : Table) (key : Key) (next : Option Key) → IsNext t passes key next → (q : Key) → is_behind q key ≡ true → is_before next q ≡ true
+  early : (t : Table) (key : Key) (next : Option Key) → IsNext t passes (Some key) next → (q : Key) → is_behind q key ≡ true → is_before next q ≡ true
   early t key None is q low = refl
   early t key (Some k) is q low = behind-trans q key k low is.behind
 
-  itself : (t : Table) (key : Key) (next : Option Key) → IsNext t passes key next → is_before next key ≡ true
+  itself : (t : Table) (key : Key) (next : Option Key) → IsNext t passes (Some key) next → is_before next key ≡ true
   itself t key None is = refl
   itself t key (Some k) is = is.behind
 
   -- what is left at a key is what it gives, and then what is left at the next
-  pub left_next : (t : Table) (key : Key) (next : Option Key) → IsNext t passes key next → (es : List (Key × X)) → T (is_sorted key_cmp es) → AllByRecursion Skips es
+  pub left_next : (t : Table) (key : Key) (next : Option Key) → IsNext t passes (Some key) next → (es : List (Key × X)) → T (is_sorted key_cmp es) → AllByRecursion Skips es
       → filter_map (left f (Some key)) es ≡ option_to_list (option_and_then (λ x. f (key, x)) (find key_cmp key es)) ++ filter_map (left f next) es
   left_next t key next is [] sorted skips = refl
   left_next t key next is (e ∷ es) sorted skips =

@@ -17,9 +17,10 @@ use Rattle.ck_model.specs.Key.{key_cmp, key_cmp_total, key_cmp_exact}
 use Rattle.ck_model.specs.Table.{Table, column}
 use Rattle.ck_model.proofs.Filesets.{all_found}
 use Rattle.ck_model.proofs.Rows.{row_of, find-row_of, is_sorted-row_of}
-use Rattle.ck_tree.specs.Following.{is_behind, IsNext}
+use Rattle.ck_chain.specs.Following.{IsNext}
+use Rattle.ck_chain.proofs.KeyOrder.{is_behind}
 use Rattle.ck_tree.specs.Removing.{is_block_from, blocks_from, deletions, deletion_at}
-use Rattle.ck_tree.proofs.FollowingLemmas.{keys-row, true_or_false}
+use Rattle.ck_chain.proofs.FollowingLemmas.{keys-row, true_or_false}
 use Rattle.ck_tree.proofs.ListingLemmas.{left, left_next, none_before, none_left, Skips}
 
 -- the deletion of an entry, where it is of such a block
@@ -74,7 +75,7 @@ module _ (t : Table) (node first : ℕ) where
   here_is key is (Some held) = ap (λ b. option_to_list (if b then Some (Del key) else None)) is
 
   -- a block's deletion, and what is left at the next, are what was left
-  pub deletions_next : (key : Key) (next : Option Key) → is_block_from node first key ≡ true → IsNext t passes key next → (old changes : List Change)
+  pub deletions_next : (key : Key) (next : Option Key) → is_block_from node first key ≡ true → IsNext t passes (Some key) next → (old changes : List Change)
       → changes ++ left_to_delete t node first (Some key) ≡ old ++ deletions (blocks_from t node first)
       → (changes ++ deletion_at t key) ++ left_to_delete t node first next ≡ old ++ deletions (blocks_from t node first)
   deletions_next key next is next_is old changes so_far =

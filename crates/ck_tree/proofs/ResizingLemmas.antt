@@ -24,7 +24,7 @@ use Rattle.ck_tree.specs.Plan.{with_changes, Differ, MayBeMade}
 use Rattle.ck_tree.specs.Removing.{is_block_from, blocks_from, deletions}
 use Rattle.ck_tree.specs.Resizing.{first_past, cut_write, cut_changes, size_put, size_changes}
 use Rattle.ck_tree.specs.Standing.{StandsFor}
-use Rattle.ck_tree.proofs.FollowingLemmas.{among-passing}
+use Rattle.ck_chain.proofs.FollowingLemmas.{among-passing}
 use Rattle.ck_tree.proofs.DeletionLemmas.{get-deletions, no_cell}
 
 -- ---- lists of changes

@@ -1,5 +1,4 @@
 pub mod Standing
-pub mod Following
 pub mod Listing
 pub mod Faults
 pub mod Removing

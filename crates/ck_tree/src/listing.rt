@@ -1,4 +1,4 @@
-ghost use Rattle.std.specs.Prelude.{◌≡◌, ◌++◌, ◌&&◌, true, is_some, IfSome, OnOk, IfOk};
+ghost use Rattle.std.specs.Prelude.{◌≡◌, ◌++◌, ◌&&◌, true, is_some, IfSome, OnOk, IfOk, Some};
 ghost use Rattle.std.specs.Option.{option_to_list};
 ghost use Rattle.ck_model.specs.declared.key.Key.TheVariants.{Name};
 ghost use Rattle.ck_model.specs.Cells.{Cells};
@@ -6,7 +6,7 @@ ghost use Rattle.ck_model.specs.Chain.{value_at};
 ghost use Rattle.ck_model.specs.Changing.{has_names};
 ghost use Rattle.ck_model.specs.Key.{is_name_in};
 ghost use Rattle.ck_model.specs.Reading.{children};
-ghost use Rattle.ck_tree.specs.Following.{IsNext};
+ghost use Rattle.ck_chain.specs.Following.{IsNext};
 ghost use Rattle.ck_tree.specs.Listing.{child_at, least_name};
 ghost use Rattle.ck_tree.specs.Standing.{StandsFor};
 
@@ -35,7 +35,7 @@ fn is_name_in(node: u32, key: &Key) -> bool
 fn next_name<M: Meta>(meta: &M, fs: u32, node: u32, name: &Key) -> Option<Key>
     requires { is_name_in node name.now ≡ true }
     ensures next { let t = M.table meta.now in
-        IsNext t (λ q. is_name_in node q && is_some (value_at t fs q)) name.now result }
+        IsNext t (λ q. is_name_in node q && is_some (value_at t fs q)) (Some name.now) result }
     ensures name { IfSome result (λ next. is_name_in node next ≡ true) }
 {
     let next = next_key(meta, fs, name)?;

@@ -1,10 +1,10 @@
-ghost use Rattle.std.specs.Prelude.{◌≡◌, ◌++◌, ◌&&◌, true, is_some, IfSome, IfOk, OnOk};
+ghost use Rattle.std.specs.Prelude.{◌≡◌, ◌++◌, ◌&&◌, true, is_some, IfSome, IfOk, OnOk, Some};
 ghost use Rattle.ck_model.specs.declared.key.Key.TheVariants.{Block};
 ghost use Rattle.ck_model.specs.Table.{column};
-ghost use Rattle.ck_tree.specs.Following.{IsNext};
+ghost use Rattle.ck_chain.specs.Following.{IsNext};
 ghost use Rattle.ck_tree.specs.Removing.{blocks_from, deletion_at, deletions, file_keys, is_block_from};
 
-use crate::following::next_entry;
+use ck_chain::next_entry;
 use ck_model::{Change, Key, Meta, NoMemory};
 use std::alloc::Global;
 
@@ -21,10 +21,10 @@ fn is_block_from(node: u32, first: u32, key: &Key) -> bool
 fn next_block<M: Meta>(meta: &M, node: u32, first: u32, block: &Key) -> Option<Key>
     requires { is_block_from node first block.now ≡ true }
     ensures next { let t = M.table meta.now in
-        IsNext t (λ q. is_block_from node first q && is_some (column t q 0)) block.now result }
+        IsNext t (λ q. is_block_from node first q && is_some (column t q 0)) (Some block.now) result }
     ensures block { IfSome result (λ next. is_block_from node first next ≡ true) }
 {
-    let next = next_entry(meta, 0, block)?;
+    let next = next_entry(meta, 0, Some(block))?;
     if is_block_from(node, first, &next) {
         Some(next)
     } else {

@@ -24,8 +24,6 @@ mod reads;
 mod room;
 mod storing;
 mod telling;
-#[cfg(test)]
-mod tests;
 mod told;
 mod volume;
 mod writing;

@@ -3,8 +3,6 @@
 
 mod command;
 mod matching;
-#[cfg(test)]
-mod tests;
 
 pub use command::Command;
 pub use matching::match_words;

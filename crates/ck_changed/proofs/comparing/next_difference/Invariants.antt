@@ -1,0 +1,18 @@
+use Rattle.std.proofs.Common.{◌≡◌, true, false, IfSome}
+use Rattle.std.specs.Option.{option_copied}
+use Rattle.ck_model.specs.declared.key.Key.{Key}
+use Rattle.ck_chain.specs.Following.{is_after, is_before}
+use Rattle.ck_changed.specs.Differing.{differs_at}
+use Rattle.ck_chain.proofs.KeysLeft.{keys_left}
+use Rattle.ck_changed.proofs.comparing.next_difference.Given as goal
+
+abbrev pub invariant-loop-here : goal.invariant-loop-here
+invariant-loop-here g l =
+    let t = g.M.Meta.table l.meta in
+    record {
+      behind : IfSome l.here (λ k. is_after (option_copied l.after) k ≡ true);
+      between : (q : Key) → is_after (option_copied l.after) q ≡ true → is_before l.here q ≡ true → differs_at t l.from l.to q ≡ false;
+    }
+
+abbrev pub decreases-loop-here : goal.decreases-loop-here
+decreases-loop-here g l = keys_left (g.M.Meta.table l.meta) l.here
