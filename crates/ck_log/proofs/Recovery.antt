@@ -139,16 +139,14 @@ area_of-has layout blocks c has = sym (table_at layout c layout.second has.gate)
 pub area_of-settled : (layout : Layout) (m : Meaning) → Lawful m → IsTrue m.tells → Settled layout m → area_of layout m.shows ≡ table_on layout m.shows
 area_of-settled layout m law told settled = area_of-has layout (table_on layout m.shows) m.shows (settled told m.shows (law.shown told))
 
--- ---- a commit
-
--- and once it is done, the volume with the area that the region names
+-- once a commit is done, the image opens with the area that its gate names
 pub recovered_region-settled : (layout : Layout) (second : Bool) (blocks c : Image) → recovered_region c ≡ Opens (record layout { second = names_second c }) → HasTable (record layout { second = second }) blocks c
     → recovered_region c ≡ Opens (record layout { second = second })
 recovered_region-settled layout second blocks c is has = is ∙ ap (λ (b : Bool). Opens (record layout { second = b })) has.gate
 
 -- ---- a write of a data block
 
--- leaves the region and the table of an image as they were
+-- it leaves the region and the table of an image as they were
 pub recovered_region-set : (image : Image) (at : ℕ) (b : List ℕ) → 2 ≤ at → recovered_region (set image at b) ≡ recovered_region image
 recovered_region-set image at b high =
     recovered_region-agrees (λ k. k < at) image (set image at b) (omega arith) (omega arith) (record { size = length-set image at b; at = λ k lt. get_or-set_other image at k b [] (below k lt) })
@@ -163,7 +161,7 @@ table_on-set layout image at b high =
     below : (k : ℕ) → k < at → k ≢ at
     below k lt e = omega arith
 
--- a read or a sync leaves it so too
+-- a read or a sync leaves the table settled
 pub settled-keeps : (layout : Layout) (old new : Meaning) → new.tells ≡ old.tells → new.shows ≡ old.shows → Within new.may_leave old.may_leave → Settled layout old → Settled layout new
 settled-keeps layout old new tells shows within settled told c left =
     let was = settled (subst (λ (b : Bool). IsTrue b) tells told) c (within c left) in
