@@ -40,13 +40,6 @@ module _ (blocks records : ℕ) where
   pub new_filesets : map.entries (new_table blocks records).filesets ≡ []
   new_filesets = no_entries nat_cmp
 
-  new_records : records_of (new_table blocks records) ≡ Entry 0 (Node 0) (Plain 0 Dir) ∷ []
-  new_records = λ i. list_map (λ (e : ℕ × Fileset). FilesetRecord e.0 e.1) (new_filesets i) ++ list_map (λ (e : (ℕ × Key) × Held). Entry e.0.0 e.0.1 e.1) (new_entries i)
-
-  -- the counters, the root directory's node, and free slots
-  pub new_written : (slots : ℕ) → written_as slots (new_table blocks records) ≡ Some (CountersRecord first) ∷ Some (Entry 0 (Node 0) (Plain 0 Dir)) ∷ replicate (slots - 2) (Some Free)
-  new_written slots = ap (λ (l : List Record). list_map (λ value. Some value) (CountersRecord first ∷ l) ++ replicate (slots - (1 + length l)) (Some Free)) new_records
-
   root_within : IsWord 0 × IsEntry (Node 0) (Plain 0 Dir)
   root_within = (lit< tt, record { place = lit< tt; value = lit< tt })
 

@@ -38,9 +38,6 @@ read_within bytes (Some v) h = h.1
 pub records_of_slots : (blocks : Blocks) (area : Area) → AreSlots blocks area → AreRecords area
 records_of_slots blocks area slots = all_at (λ x. IfSome x IsRecord) None area (λ i h. read_within (slot_bytes blocks i) (slot_at area i) (slots.each i h))
 
-pub records_of_each : (area : Area) → ((slot : ℕ) → slot < length area → IfSome (slot_at area slot) IsRecord) → AreRecords area
-records_of_each area each = all_at (λ x. IfSome x IsRecord) None area each
-
 -- ---- within the limits
 
 entry_within : (e : (ℕ × Key) × Held) (area : Area) → AreRecords area → Among e (entries_in area) → IsWord e.0.0 × IsEntry e.0.1 e.1
@@ -100,21 +97,7 @@ counters_first blocks records (Some (CountersRecord c)) area none = refl
 counters_first blocks records (Some (FilesetRecord id f)) area none = absurd (false≢true (sym (all_fine blocks records (Some (FilesetRecord id f) ∷ area) none).0.fine))
 counters_first blocks records (Some (Entry fs key held)) area none = absurd (false≢true (sym (all_fine blocks records (Some (Entry fs key held) ∷ area) none).0.fine))
 
--- the counters stand in slot 0
-pub first_is_counters : (blocks records : ℕ) (area : Area) → damage blocks records area ≡ None → 1 ≤ length area → slot_at area 0 ≡ Some (CountersRecord (table_of blocks records area).counters)
-first_is_counters blocks records [] none some = absurd (omega (arith, some))
-first_is_counters blocks records (x ∷ area) none some = counters_first blocks records x area none
-
 -- ---- sound, and of the right size
-
-some_at : {X : Type 0} (xs : List (Option X)) (i : ℕ) → AllByRecursion IsSome xs → i < length xs → IsSome (get_or xs i None)
-some_at [] i all h = absurd (omega (arith, h))
-some_at (x ∷ xs) zero all h = all.0
-some_at (x ∷ xs) (suc i) all h = some_at xs i all.1 (omega (arith, h))
-
--- each slot has a record
-pub undamaged_slots : (blocks records : ℕ) (area : Area) → damage blocks records area ≡ None → (slot : ℕ) → slot < length area → IsSome (slot_at area slot)
-undamaged_slots blocks records area none slot h = some_at area slot (slots_some blocks records area [] area (all_fine blocks records area none)) h
 
 with_counters_sound : (blocks records : ℕ) (c : Counters) (area : Area) → damage blocks records (Some (CountersRecord c) ∷ area) ≡ None → IsSound (table_of blocks records (Some (CountersRecord c) ∷ area))
 with_counters_sound blocks records c area none =

@@ -131,14 +131,6 @@ length_written slots t fits =
     let count = count_written t in
     omega (arith, both, one, two, count, fits)
 
--- the slots of a table's blocks have room for the counters and all records
-pub room_written : (t : Table) → IsSized t → 1 + record_count t ≤ 32 * ((t.records + 32) / 32)
-room_written t sized = let fits = sized.fits in omega (arith, fits)
-
--- it fills the slots of a table's blocks
-pub length_written_whole : (t : Table) → IsSized t → length (written_as (32 * ((t.records + 32) / 32)) t) ≡ 32 * ((t.records + 32) / 32)
-length_written_whole t sized = length_written (32 * ((t.records + 32) / 32)) t (room_written t sized)
-
 -- ---- no slot breaks a rule
 
 module _ (records : ℕ) where

@@ -8,9 +8,6 @@ use Rattle.ck_io.specs.Bytes.{EndsWith, GainsPrefix}
 pub told_on : (old new : Bool) → new ≡ old → IsTrue old → IsTrue new
 told_on old new same told = subst (λ (b : Bool). IsTrue b) (sym same) told
 
-pub ends_at_start : (bytes : List ℕ) → EndsWith bytes bytes
-ends_at_start bytes = record { taken = []; parts = refl }
-
 -- a rest of a rest is a rest
 pub ends_on : (bytes mid rest : List ℕ) → EndsWith bytes mid → EndsWith mid rest → EndsWith bytes rest
 ends_on bytes mid rest a b = record {
@@ -25,12 +22,6 @@ gains_taken count old new bytes is = record {
   parts = sym (take-append-drop count bytes);
   appended = is;
 }
-
-pub gains_nothing : (old bytes : List ℕ) → GainsPrefix old old bytes
-gains_nothing old bytes = record { gained = []; missing = bytes; parts = refl; appended = sym (append-nil old) }
-
-pub gains_all : (old new bytes : List ℕ) → new ≡ old ++ bytes → GainsPrefix old new bytes
-gains_all old new bytes is = record { gained = bytes; missing = []; parts = sym (append-nil bytes); appended = is }
 
 -- the first of two runs of bytes was written in part
 pub gains_first : (old new first second : List ℕ) → GainsPrefix old new first → GainsPrefix old new (first ++ second)

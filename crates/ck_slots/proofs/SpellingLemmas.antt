@@ -76,18 +76,6 @@ module _ (t : Table) where
   pub free_slot : (slot : ℕ) → 1 + record_count t ≤ slot → Free ≡ record_in t slot
   free_slot slot behind = sym (past_all (CountersRecord t.counters ∷ records_of t) slot (omega (arith, behind, count_written t)))
 
--- ---- one more block
-
-pub spelled_more : (t : Table) (blocks : Blocks) (block : List ℕ) → AreSpelled t blocks → IsSpelled t (32 * length blocks) block → AreSpelled t (blocks ++ block ∷ [])
-spelled_more t blocks block so_far here at low =
-    elim (cases_lt at (length blocks)) [
-      | inl before ↦ subst (IsSpelled t (32 * at)) (sym (get_or_append_left blocks (block ∷ []) [] at before)) (so_far at before)
-      | inr behind ↦
-          let last : length blocks ≡ at = omega (arith, low, behind, length-append blocks (block ∷ [])) in
-          subst (λ k. IsSpelled t (32 * k) (get_or (blocks ++ block ∷ []) k [])) last
-          (subst (IsSpelled t (32 * length blocks)) (sym (get_or-append_seam blocks block [] [])) here)
-    ]
-
 -- ---- from blocks to slots
 
 pub room_for : (t : Table) (records : ℕ) → IsSized t → t.records ≡ records → 1 + record_count t ≤ 32 * ((records + 32) / 32)
