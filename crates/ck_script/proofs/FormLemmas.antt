@@ -6,7 +6,8 @@ use Rattle.std.proofs.lemmas.Bool.Decides.{nat_tests}
 use Rattle.ck_model.specs.declared.call.Call.{Call}
 use Rattle.ck_script.specs.declared.form.Form.{Form}
 use Rattle.ck_script.specs.declared.form.Form.TheVariants.{Called, Turned}
-use Rattle.ck_script.specs.Grammar.{is_text, number_up_to, actor_of, call_of, turns_of, turn_of, form_of, fill_of}
+use Rattle.ck_script.specs.Arguments.{is_text, number_up_to, actor_of}
+use Rattle.ck_script.specs.Grammar.{call_of, turns_of, turn_of, form_of, fill_of}
 use Rattle.ck_script.specs.Built.{is_built}
 use Rattle.ck_script.specs.Reading.{Parsed, is_skipped, form_in, with_form, with_line}
 use Rattle.ck_script.specs.Steps.{HasActor}

@@ -10,7 +10,7 @@ use Rattle.std.proofs.lemmas.List.Elements.{All-head, All-tail, All-weaker}
 use Rattle.std.proofs.lemmas.List.Splits.{slice_split-cons_yes, slice_split-cons_no, slice_split_none, slice_split_at}
 use Rattle.ck_model.specs.Name.{IsNameByte, IsFileName}
 use Rattle.ck_model.specs.Path.{IsPath, joined, path_text}
-use Rattle.ck_script.specs.Grammar.{is_text, is_slash, is_file_name, names_of, path_of}
+use Rattle.ck_script.specs.Arguments.{is_text, is_slash, is_file_name, names_of, path_of}
 use Rattle.ck_script.proofs.NameLemmas.{Decides-file_name, Decides-nat_le}
 
 -- the names between the slashes of a text
