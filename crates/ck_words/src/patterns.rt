@@ -1,5 +1,5 @@
 ghost use Rattle.std.specs.Prelude.{◌≡◌, Some, None, IfSome, if◌then◌else◌, codes, string_bytes, map as list_map};
-ghost use Rattle.ck_words.specs.Words.{is_text as same_text, number_within as number_between, blocks_of as blocks_in, records_of as records_in, mkfs_of, command_of, IsWithin};
+ghost use Rattle.ck_words.specs.Command.{is_text as same_text, number_within as number_between, blocks_of as blocks_in, records_of as records_in, mkfs_of, command_of, IsWithin};
 ghost use Rattle.ck_words.specs.declared.command.Command.TheVariants as commands;
 
 use crate::Command;
