@@ -2,13 +2,13 @@ ghost use Rattle.std.specs.Prelude.{◌≡◌, ◌∷◌, map as list_map};
 ghost use Rattle.ck_script.specs.Grammar.{path_alone as lone_path, name_alone as lone_name, letter_alone as lone_letter, alone as lone_call, call_with as call_by, call_of as call_in};
 ghost use Rattle.ck_script.specs.Refusal.{Answers};
 
+use crate::Refusal;
 use crate::arguments::{checkpoint_name, letter_of, path_of};
 use crate::checkpoints::{
     backup_of, cls_of, cread_of, create_of, mount_of, nodata_of, removable_of,
 };
 use crate::files::{fill_of, mv_of, read_of, trunc_of, write_of};
 use crate::verb::Verb;
-use crate::Refusal;
 use ck_model::{Call, NameBytes, Path};
 use std::alloc::Global;
 

@@ -28,7 +28,11 @@ pub fn built_form(alloc: Global, words: &[&[u8]]) -> Result<Form, Refusal>
     ensures actor { IfOk result HasActor }
 {
     let form = form_of(alloc, words)?;
-    if is_built(&form) { Ok(form) } else { Err(Refusal::NotThis) }
+    if is_built(&form) {
+        Ok(form)
+    } else {
+        Err(Refusal::NotThis)
+    }
 }
 
 fn is_built(form: &Form) -> bool

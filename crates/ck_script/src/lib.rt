@@ -19,7 +19,6 @@ mod words;
 pub use fault::ParseFault;
 pub use line::{Line, Lines};
 pub use parser::parse;
+use refusal::Refusal;
 pub use script::Script;
 pub use turns::Turns;
-
-use refusal::Refusal;

@@ -1,4 +1,5 @@
-ghost use Rattle.std.specs.Prelude.{◌≡◌};
+ghost use Rattle.std.specs.Prelude.{◌≡◌, find};
+ghost use Rattle.ck_script.specs.Arguments.{is_text as same_text};
 ghost use Rattle.ck_script.specs.Verb.{verb_text, verb_of as verb_in};
 
 use crate::arguments::is_text;
@@ -98,11 +99,15 @@ impl Verb {
     pub fn of(word: &[u8]) -> Option<Verb>
         ensures { result ≡ verb_in word.now }
     {
-        for verb in &VERBS {
-            if is_text(word, verb.text()) {
-                return Some(*verb);
-            }
-        }
-        None
+        first_with(&VERBS, word)
     }
+}
+
+fn first_with(verbs: &[Verb], word: &[u8]) -> Option<Verb>
+    ensures { result ≡ find (λ verb. same_text word.now (verb_text verb)) verbs.now }
+{
+    verbs
+        .iter()
+        .copied()
+        .find(|verb| is_text(word, verb.text()))
 }
