@@ -118,8 +118,3 @@ path_read word None text is none = elim (path_of word) as (λ o. path_of word �
   | None ↦ λ e. refl
   | Some names ↦ λ e. let found = path_found word names e in absurd (none names found.1 found.0)
 ] refl
-
-pub path_read_ok : {E : Type 0} (word : List ℕ) (found : Result (Option (List (List ℕ))) E) → IfOk found (λ found. IfSome found (λ path. path_text path ≡ word)) → IfOk found (λ found. IfSome found IsPath) →
-    IfOk found (λ found. IfNone found ((names : List (List ℕ)) → IsPath names → path_text names ≢ word)) → IfOk found (λ path. path ≡ path_of word)
-path_read_ok word (Ok found) text is none = path_read word found text is none
-path_read_ok word (Err error) text is none = tt

@@ -2,7 +2,7 @@ use Rattle.std.proofs.Common.{◌≡◌, ◌++◌, drop}
 use Rattle.std.specs.List.{AllByRecursion, flat_map}
 use Rattle.ck_model.specs.Name.{IsName}
 use Rattle.ck_report.specs.Words.{child_words}
-use Rattle.ck_report.proofs.words.put_children.Given as goal
+use Rattle.ck_report.proofs.replies.put_children.Given as goal
 
 abbrev pub invariant-loop-child : goal.invariant-loop-child
 invariant-loop-child l = record {

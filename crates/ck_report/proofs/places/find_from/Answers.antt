@@ -2,7 +2,7 @@ use Rattle.std.proofs.Common.{◌≡◌, ◌&&◌, true, nat_eq, ◌∙◌, arit
 use Rattle.std.proofs.lemmas.Bool.Decides.{nat_tests}
 use Rattle.ck_report.specs.Places.{is_call_of}
 use Rattle.ck_report.proofs.CallLemmas.{found_here}
-use Rattle.ck_report.proofs.finding.find_from.Goals as goal
+use Rattle.ck_report.proofs.places.find_from.Goals as goal
 
 pub returns-then-line-seq-clause-first : goal.returns-then-line-seq-clause-first
 returns-then-line-seq-clause-first c =

@@ -4,7 +4,7 @@ use Rattle.ck_model.specs.History.{call_at}
 use Rattle.ck_script.specs.Numbered.{calls_in}
 use Rattle.ck_report.specs.Printed.{AreProper}
 use Rattle.ck_report.specs.Transcript.{entry_text}
-use Rattle.ck_report.proofs.story.transcript.Given as goal
+use Rattle.ck_report.proofs.history.transcript.Given as goal
 
 abbrev pub invariant-loop-entry : goal.invariant-loop-entry
 invariant-loop-entry l = record {

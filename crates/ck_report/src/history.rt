@@ -6,9 +6,10 @@ ghost use Rattle.ck_report.specs.Printed.{IsNumber, IsProper, IsProperIn, ArePro
 ghost use Rattle.ck_report.specs.Words.{number_words};
 ghost use Rattle.ck_report.specs.Transcript.{entry_head, answer_text, entry_text, transcript_text};
 
-use crate::finding::{Places, find_call};
+use crate::calls::put_call;
+use crate::places::{Places, find_call};
 use crate::put::{put, put_number};
-use crate::words::{put_call, put_reply};
+use crate::replies::put_reply;
 use ck_model::{Call, Entry, NoMemory, Reply};
 use ck_script::{Line, Script};
 use ck_text::put_decimal;
