@@ -1,5 +1,5 @@
 -- What lines stand for.
-use Rattle.std.proofs.Common.{◌≡◌, ℕ, ◌≤◌, ◌++◌, Bool, true, false, cond, List, [], ◌∷◌, Option, Some, None, nat_le, codes, length, map as list_map, ◌≢◌, refl, sym, ap, subst, ◌∙◌, arith, append_assoc}
+use Rattle.std.proofs.Common.{◌≡◌, ℕ, ◌≤◌, Bool, true, false, cond, List, [], ◌∷◌, Option, Some, None, nat_le, codes, length, map as list_map, ◌≢◌, refl, sym, ap, subst, ◌∙◌, arith}
 use Rattle.std.specs.Option.{option_map, option_and_then}
 use Rattle.std.proofs.lemmas.Option.{option_and_then_some}
 use Rattle.std.proofs.lemmas.Bool.Decides.{nat_tests}
@@ -7,9 +7,8 @@ use Rattle.ck_model.specs.declared.call.Call.{Call}
 use Rattle.ck_script.specs.declared.form.Form.{Form}
 use Rattle.ck_script.specs.declared.form.Form.TheVariants.{Called, Turned}
 use Rattle.ck_script.specs.Arguments.{is_text, number_up_to, actor_of}
-use Rattle.ck_script.specs.Grammar.{call_of, turns_of, turn_of, form_of, fill_of}
+use Rattle.ck_script.specs.Grammar.{call_of, turns_of, form_of, fill_of}
 use Rattle.ck_script.specs.Built.{is_built}
-use Rattle.ck_script.specs.Reading.{Parsed, is_skipped, form_in, with_form, with_line}
 use Rattle.ck_script.specs.Steps.{HasActor}
 
 -- a test that gives its number

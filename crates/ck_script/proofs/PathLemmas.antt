@@ -1,5 +1,5 @@
 -- A path is read from a word exactly where the word is its text.
-use Rattle.std.proofs.Common.{◌≡◌, ◌≢◌, ℕ, ◌≤◌, ◌&&◌, Bool, true, false, cond, List, [], ◌∷◌, ◌++◌, length, drop, Option, Some, None, IfSome, IfNone, IfOk, Result, Ok, Err, All, nat_le, codes, refl, sym, ap, subst, ◌∙◌, lit≤, arith}
+use Rattle.std.proofs.Common.{◌≡◌, ◌≢◌, ℕ, ◌≤◌, ◌&&◌, Bool, true, false, cond, List, [], ◌∷◌, ◌++◌, length, drop, Option, Some, None, IfSome, IfNone, All, nat_le, codes, refl, sym, ap, subst, ◌∙◌, lit≤, arith}
 use Rattle.std.proofs.lemmas.List.{append-nil}
 use Rattle.std.specs.Prelude.{slice_index}
 use Rattle.std.specs.Bool.{Decides}
