@@ -24,9 +24,13 @@ nothing_read = record { calls = []; turns = [] }
 abbrev pub is_skipped : List ℕ → Bool
 is_skipped line = nat_eq (length (words_of line)) 0 || nat_eq (slice_index line 0) 35
 
--- what a line stands for, where it is built
+-- what words stand for, where it is built
+abbrev pub built_form : List (List ℕ) → Option Form
+built_form words = option_and_then (λ form. if is_built form then Some form else None) (form_of words)
+
+-- and what a line stands for
 abbrev pub form_in : List ℕ → Option Form
-form_in line = option_and_then (λ form. if is_built form then Some form else None) (form_of (words_of line))
+form_in line = built_form (words_of line)
 
 -- a call gets the next number of its actor
 abbrev pub line_of : List Line → ℕ → ℕ → Call → Line
