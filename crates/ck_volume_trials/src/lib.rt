@@ -1,0 +1,5 @@
+//! Tests by public names of the volume and of the programs' top calls: what the built programs can't show.
+#![tactic(auto)]
+
+#[cfg(test)]
+mod volumes;
