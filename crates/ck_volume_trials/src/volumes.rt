@@ -1,10 +1,11 @@
+// The volume called as the top call calls it: what a commit keeps, and how a failed write breaks it.
 ghost use Rattle.std.specs.Prelude.{◌≡◌, ◌+◌, ◌<◌, None, IfOk, OnOk};
 ghost use Rattle.ck_volume.specs.Built.{IsBuilt};
 ghost use Rattle.ck_volume.specs.Volume.{length_of, spoilt_of};
 
-use ck_volume::{CommitAnswer, FormatFault, OpenFault, Progress, Turn, Volume};
 use ck_disk::{MemDisk, NoMemory};
 use ck_model::{Call, Octets, Path, Reply};
+use ck_volume::{CommitAnswer, Progress, Turn, Volume};
 use std::alloc::Global;
 use std::test::Fail;
 
@@ -132,16 +133,6 @@ fn what_was_not_committed_is_gone(rt: HostRuntime) -> Result<(), Fail> {
     let volume = answered(alloc, new_volume(alloc, 0)?, &make(alloc)?)?;
     assert!(rt; matches!(reply(&volume), Reply::Done));
     assert!(rt; is_gone(alloc, volume.close().disk)?);
-    Ok(())
-}
-
-#[test]
-fn says_why_there_is_no_volume(rt: HostRuntime) -> Result<(), Fail> {
-    let alloc = rt.alloc();
-    let short = Volume::format(alloc, device(alloc, NEEDED - 1, 0)?, BLOCKS, RECORDS);
-    assert!(rt; matches!(&short, Err(FormatFault::BadSize(_, 85, 84))));
-    let zeros = Volume::open(alloc, device(alloc, NEEDED, 0)?);
-    assert!(rt; matches!(&zeros, Err(OpenFault::NotVolume(_))));
     Ok(())
 }
 
