@@ -1,4 +1,4 @@
-use Rattle.std.proofs.Common.{[], ◌∙◌, sym}
+use Rattle.std.proofs.Common.{◌∙◌, sym}
 use Rattle.ck_stream.specs.Right.{changes}
 use Rattle.ck_merge.specs.Merged.{merged, records}
 use Rattle.ck_merge.proofs.MergedLaws.{merged_alone, same_items}
