@@ -9,4 +9,4 @@ pub mod HeaderLaws
 pub mod StreamLaws
 pub mod SeenLaws
 pub mod ByKeyLaws
-pub mod Backups
+pub mod TextsLaws
