@@ -15,6 +15,9 @@ pub mod FreezingLemmas
 pub mod ReportingLemmas
 pub mod StepLemmas
 pub mod HistoryLemmas
+pub mod Lookups
+pub mod Walks
+pub mod Grafts
 pub mod LawsLemmas
 pub mod PathLemmas
 pub mod ValuesOf

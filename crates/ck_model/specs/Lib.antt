@@ -20,5 +20,6 @@ pub mod Changing
 pub mod Freezing
 pub mod Reporting
 pub mod Step
+pub mod Tree
 pub mod History
 pub mod Laws
