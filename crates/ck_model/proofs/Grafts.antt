@@ -83,6 +83,9 @@ module _ (cells after : Cells) (f : ℕ) (place : Option (ℕ × List ℕ)) (tre
   once_after : (m d e : ℕ) (n o : List ℕ) → child_at after d n ≡ Some m → child_at after e o ≡ Some m → (d ≡ e) × (n ≡ o)
   once_after m d e n o first second = on (h.names d n) (h.names e o)
     where
+      some_injective : (x y : ℕ × List ℕ) → ◌≡◌ {A = Option (ℕ × List ℕ)} (Some x) (Some y) → x ≡ y
+      some_injective x y e = cc
+
       on : NameAfter cells after f place d n → NameAfter cells after f place e o → (d ≡ e) × (n ≡ o)
       on (goes none _) _ = let clash : child_at after d n ≡ None = no_child after d n none in cc
       on (stays _ _) (goes none _) = let clash : child_at after e o ≡ None = no_child after e o none in cc
@@ -96,9 +99,6 @@ module _ (cells after : Cells) (f : ℕ) (place : Option (ℕ × List ℕ)) (tre
       on (comes at _ _) (comes again _ _) =
           let both : (d, n) ≡ (e, o) = some_injective (d, n) (e, o) (sym at ∙ again) in
           (ap (λ x. x.0) both, ap (λ x. x.1) both)
-
-      some_injective : (x y : ℕ × List ℕ) → ◌≡◌ {A = Option (ℕ × List ℕ)} (Some x) (Some y) → x ≡ y
-      some_injective x y e = cc
 
   -- from a node without names in it no walk leads further
   ends_at_leaf : (names : List (List ℕ)) (m : ℕ) → walk_from names cells f ≡ Ok m → f ≡ m

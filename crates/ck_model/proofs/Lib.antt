@@ -18,6 +18,7 @@ pub mod HistoryLemmas
 pub mod Lookups
 pub mod Walks
 pub mod Grafts
+pub mod FileBytes
 pub mod LawsLemmas
 pub mod PathLemmas
 pub mod ValuesOf
