@@ -19,6 +19,7 @@ pub mod Lookups
 pub mod Walks
 pub mod Grafts
 pub mod FileBytes
+pub mod Prunes
 pub mod LawsLemmas
 pub mod PathLemmas
 pub mod ValuesOf
