@@ -17,7 +17,7 @@ pub data BlocksAfter (cells after : Cells) (m : ℕ) : Type 0 where
   stay : size_at after m ≡ size_at cells m → ((i : ℕ) → map.get after (Block m i) ≡ map.get cells (Block m i)) → BlocksAfter cells after m
   none : ((i : ℕ) → map.get after (Block m i) ≡ None) → BlocksAfter cells after m
 
-same_byte : (cells after : Cells) (m i at : ℕ) → map.get after (Block m i) ≡ map.get cells (Block m i) → block_byte after m i at ≡ block_byte cells m i at
+pub same_byte : (cells after : Cells) (m i at : ℕ) → map.get after (Block m i) ≡ map.get cells (Block m i) → block_byte after m i at ≡ block_byte cells m i at
 same_byte cells after m i at h = ap (λ o. get_or (bytes_in (option_and_then (λ (cell : Cell). cell.payload) o)) at 0) h
 
 pub same_size : (cells after : Cells) (m : ℕ) → map.get after (Node m) ≡ map.get cells (Node m) → size_at after m ≡ size_at cells m

@@ -20,6 +20,7 @@ pub mod Walks
 pub mod Grafts
 pub mod FileBytes
 pub mod Prunes
+pub mod FileEdits
 pub mod LawsLemmas
 pub mod PathLemmas
 pub mod ValuesOf
