@@ -16,7 +16,7 @@ use Rattle.ck_model.specs.Key.{key_cmp, is_past}
 use Rattle.ck_model.specs.Cells.{Cells, bytes_in, size_in, is_directory, is_directory_at, size_at, with_cells}
 use Rattle.ck_model.specs.Reading.{block_byte, file_byte}
 use Rattle.ck_model.specs.Changes.{cell_of, touched, byte_after, block_after, grown_to, written, cut_block, cut_at, cut_to, resized}
-use Rattle.ck_model.specs.Tree.{HasNode, IsTree}
+use Rattle.ck_model.specs.Tree.{HasNode, IsGrown}
 use Rattle.ck_model.proofs.CellsLemmas.{get-with_cells, get-retain_keys}
 use Rattle.ck_model.proofs.Lookups.{tied_with_itself, untied}
 use Rattle.ck_model.proofs.Grafts.{same_directory, same_stands}
@@ -69,7 +69,7 @@ byte_behind : (cells : Cells) (f at : ℕ) (bytes : List ℕ) (i k : ℕ) → at
 byte_behind cells f at bytes i k past =
     ap (λ b. if b then get_or bytes (i * 4096 + k - at) 0 else block_byte cells f i k) (and_right (nat_le at (i * 4096 + k)) (nat_lt (i * 4096 + k) (at + length bytes)) (le-ltb (i * 4096 + k) (at + length bytes) past))
 
-module _ (cells : Cells) (tree : IsTree cells) (stamp f at : ℕ) (bytes : List ℕ) (some : 0 < length bytes)
+module _ (next : ℕ) (cells : Cells) (before : IsGrown next cells) (stamp f at : ℕ) (bytes : List ℕ) (some : 0 < length bytes)
     (stood : HasNode cells f) (was_file : is_directory_at cells f ≡ false) where
   abbrev end_of : ℕ
   end_of = at + length bytes
@@ -178,14 +178,14 @@ module _ (cells : Cells) (tree : IsTree cells) (stamp f at : ℕ) (bytes : List 
           on : BlockAfter i → i * 4096 < size_at edited f
           on (put low _) = omega (arith, low, edited-larger.new)
           on (left same) =
-              let before = tree.blocks f i (sym (same_stands cells edited (Block f i) same) ∙ stands) in
-              omega (arith, before, edited-larger.old)
+              let under = before.tree.blocks f i (sym (same_stands cells edited (Block f i) same) ∙ stands) in
+              omega (arith, under, edited-larger.old)
 
       empty : (place : ℕ) → size_at edited f ≤ place → file_byte edited f place ≡ 0
       empty place past = on (block_of (place / 4096))
         where
           was_zero : block_byte cells f (place / 4096) (place % 4096) ≡ 0
-          was_zero = tree.zeros f place (omega (arith, past, edited-larger.old))
+          was_zero = before.tree.zeros f place (omega (arith, past, edited-larger.old))
 
           on : BlockAfter (place / 4096) → file_byte edited f place ≡ 0
           on (put _ is) =
@@ -195,12 +195,12 @@ module _ (cells : Cells) (tree : IsTree cells) (stamp f at : ℕ) (bytes : List 
               ∙ was_zero
           on (left same) = same_byte cells edited f (place / 4096) (place % 4096) same ∙ was_zero
 
-  edited-tree : IsTree edited
-  edited-tree = rewritten cells edited f tree edited-rewrite
+  edited-grown : IsGrown next edited
+  edited-grown = rewritten next cells edited f before edited-rewrite
 
-pub written-tree : (cells : Cells) → IsTree cells → (stamp f at : ℕ) (bytes : List ℕ) → HasNode cells f → is_directory_at cells f ≡ false → IsTree (written cells stamp f at bytes)
-written-tree cells tree stamp f at [] stood was_file = tree
-written-tree cells tree stamp f at (byte ∷ bytes) stood was_file = edited-tree cells tree stamp f at (byte ∷ bytes) (omega arith) stood was_file
+pub written-grown : (next : ℕ) (cells : Cells) → IsGrown next cells → (stamp f at : ℕ) (bytes : List ℕ) → HasNode cells f → is_directory_at cells f ≡ false → IsGrown next (written cells stamp f at bytes)
+written-grown next cells before stamp f at [] stood was_file = before
+written-grown next cells before stamp f at (byte ∷ bytes) stood was_file = edited-grown next cells before stamp f at (byte ∷ bytes) (omega arith) stood was_file
 
 -- ---- another size
 
@@ -210,17 +210,17 @@ cut_byte cells f i kept k low past =
     get_or-map-range_with_len (λ place. if nat_lt place kept then block_byte cells f i place else 0) 0 4096 k k 0 low (omega arith)
     ∙ ap (λ b. if b then block_byte cells f i k else 0) (le-ltb k kept past)
 
-module _ (cells : Cells) (tree : IsTree cells) (stamp f size : ℕ)
+module _ (next : ℕ) (cells : Cells) (before : IsGrown next cells) (stamp f size : ℕ)
     (stood : HasNode cells f) (was_file : is_directory_at cells f ≡ false) where
   -- the file's node has this size afterwards, and all but its blocks is as it was
   resize : (base : Cells) → ((q : Key) → ((i : ℕ) → q ≢ Block f i) → map.get base q ≡ map.get cells q)
       → ((i : ℕ) → map.contains_key base (Block f i) ≡ true → i * 4096 < size)
       → ((place : ℕ) → size ≤ place → block_byte base f (place / 4096) (place % 4096) ≡ 0)
-      → IsTree (with_cells base ((Node f, cell_of stamp (File size)) ∷ []))
-  resize base same below empty = rewritten cells after f tree (record {
-      names = λ d n. before (Name d n) (λ clash. cc) (λ i clash. cc);
-      nodes = λ m other. before (Node m) (λ is. other (cc)) (λ i clash. cc);
-      others = λ m other i. before (Block m i) (λ clash. cc) (λ j is. other (cc));
+      → IsGrown next (with_cells base ((Node f, cell_of stamp (File size)) ∷ []))
+  resize base same below empty = rewritten next cells after f before (record {
+      names = λ d n. as_before (Name d n) (λ clash. cc) (λ i clash. cc);
+      nodes = λ m other. as_before (Node m) (λ is. other (cc)) (λ i clash. cc);
+      others = λ m other i. as_before (Block m i) (λ clash. cc) (λ j is. other (cc));
       stood = stood;
       stands = ap is_some own;
       was_file = was_file;
@@ -241,8 +241,8 @@ module _ (cells : Cells) (tree : IsTree cells) (stamp f size : ℕ)
       kept : (q : Key) → q ≢ Node f → map.get after q ≡ map.get base q
       kept q apart = get-with_cells base ((Node f, cell_of stamp (File size)) ∷ []) q ∙ ap (λ o. option_or o (map.get base q)) (find_behind q (Node f) (cell_of stamp (File size)) [] apart)
 
-      before : (q : Key) → q ≢ Node f → ((i : ℕ) → q ≢ Block f i) → map.get after q ≡ map.get cells q
-      before q not_node not_block = kept q not_node ∙ same q not_block
+      as_before : (q : Key) → q ≢ Node f → ((i : ℕ) → q ≢ Block f i) → map.get after q ≡ map.get cells q
+      as_before q not_node not_block = kept q not_node ∙ same q not_block
 
   abbrev last : ℕ
   last = size / 4096
@@ -311,12 +311,12 @@ module _ (cells : Cells) (tree : IsTree cells) (stamp f size : ℕ)
           let odd : 0 < size % 4096 = omega (arith, low, far) in
           no_byte retained f (place / 4096) (place % 4096) (same ∙ no_cell_at (place / 4096) (subst (λ i. map.contains_key cells (Block f i) ≡ false) index (none odd)))
 
-  shorter_from : (es : List (Key × Cell)) → CutAt es → IsTree (with_cells (with_cells retained es) ((Node f, cell_of stamp (File size)) ∷ []))
+  shorter_from : (es : List (Key × Cell)) → CutAt es → IsGrown next (with_cells (with_cells retained es) ((Node f, cell_of stamp (File size)) ∷ []))
   shorter_from es (whole none is) =
-      subst (λ xs. IsTree (with_cells (with_cells retained xs) ((Node f, cell_of stamp (File size)) ∷ []))) (sym is)
+      subst (λ xs. IsGrown next (with_cells (with_cells retained xs) ((Node f, cell_of stamp (File size)) ∷ []))) (sym is)
       (resize retained retained-other retained_below (λ place far. retained_zero place far none))
   shorter_from es (cut odd is) =
-      subst (λ xs. IsTree (with_cells (with_cells retained xs) ((Node f, cell_of stamp (File size)) ∷ []))) (sym is)
+      subst (λ xs. IsGrown next (with_cells (with_cells retained xs) ((Node f, cell_of stamp (File size)) ∷ []))) (sym is)
       (resize base (λ q apart. others q (apart last) ∙ retained-other q apart) low (λ place far. empty place far))
     where
       base : Cells
@@ -351,17 +351,17 @@ module _ (cells : Cells) (tree : IsTree cells) (stamp f size : ℕ)
               behind (past _ gone) = no_byte base f (place / 4096) (place % 4096) (still ∙ gone)
               behind (below under _) = absurd (apart (omega (arith, under, far)))
 
-  longer : size_at cells f < size → IsTree (with_cells cells ((Node f, cell_of stamp (File size)) ∷ []))
+  longer : size_at cells f < size → IsGrown next (with_cells cells ((Node f, cell_of stamp (File size)) ∷ []))
   longer more =
       resize cells (λ q _. refl)
-      (λ i stands. (let under = tree.blocks f i stands in omega (arith, under, more)))
-      (λ place far. tree.zeros f place (omega (arith, far, more)))
+      (λ i stands. (let under = before.tree.blocks f i stands in omega (arith, under, more)))
+      (λ place far. before.tree.zeros f place (omega (arith, far, more)))
 
-  pub resized-tree : IsTree (resized cells stamp f size)
-  resized-tree =
-      elim (nat_eq size (size_at cells f)) as (λ b. nat_eq size (size_at cells f) ≡ b → IsTree (if b then cells else with_cells (if nat_lt size (size_at cells f) then cut_to cells stamp f size else cells) ((Node f, cell_of stamp (File size)) ∷ []))) [
-        | true ↦ λ _. tree
-        | false ↦ λ apart. elim (nat_lt size (size_at cells f)) as (λ b. nat_lt size (size_at cells f) ≡ b → IsTree (with_cells (if b then cut_to cells stamp f size else cells) ((Node f, cell_of stamp (File size)) ∷ []))) [
+  pub resized-grown : IsGrown next (resized cells stamp f size)
+  resized-grown =
+      elim (nat_eq size (size_at cells f)) as (λ b. nat_eq size (size_at cells f) ≡ b → IsGrown next (if b then cells else with_cells (if nat_lt size (size_at cells f) then cut_to cells stamp f size else cells) ((Node f, cell_of stamp (File size)) ∷ []))) [
+        | true ↦ λ _. before
+        | false ↦ λ apart. elim (nat_lt size (size_at cells f)) as (λ b. nat_lt size (size_at cells f) ≡ b → IsGrown next (with_cells (if b then cut_to cells stamp f size else cells) ((Node f, cell_of stamp (File size)) ∷ []))) [
           | true ↦ λ _. shorter_from (cut_at cells stamp f size) is_cut
           | false ↦ λ over. longer (grind (arith, nat_tests))
         ] refl

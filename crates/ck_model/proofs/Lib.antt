@@ -21,6 +21,7 @@ pub mod Grafts
 pub mod FileBytes
 pub mod Prunes
 pub mod FileEdits
+pub mod TreeCalls
 pub mod LawsLemmas
 pub mod PathLemmas
 pub mod ValuesOf

@@ -16,7 +16,7 @@ use Rattle.ck_model.proofs.CellsLemmas.{get-retain_keys}
 use Rattle.ck_model.proofs.Lookups.{cases_key, get-insert_same, get-insert_other, get-remove_same, get-remove_other}
 use Rattle.ck_model.proofs.Walks.{directory_stands, child_stands}
 use Rattle.ck_model.proofs.Grafts.{NameAfter, stays, goes, comes, IsGraft, IsPlaced, no_child}
-use Rattle.ck_model.proofs.FileBytes.{BlocksAfter, stay, none, grafted_with, same_size}
+use Rattle.ck_model.proofs.FileBytes.{BlocksAfter, stay, none, grafted_with, grafted-below, same_size}
 
 -- a name that names a node names it once
 only_name : (cells : Cells) → IsTree cells → (d : ℕ) (n : List ℕ) (f : ℕ) → child_at cells d n ≡ Some f → (e : ℕ) (o : List ℕ) → Name e o ≢ Name d n → child_at cells e o ≢ Some f
@@ -124,17 +124,20 @@ module _ (cells : Cells) (tree : IsTree cells) (stamp d : ℕ) (n : List ℕ) (f
       on (inl same) = none (λ i. made-other (Block m i) (λ clash. cc) (λ clash. cc) ∙ no_blocks cells tree m (subst (λ x. size_at cells x ≡ 0) (sym same) (no_size cells f fresh)) i)
       on (inr other) = stay (same_size cells made_cells m (made-other (Node m) (λ clash. cc) (node_apart m f other))) (λ i. made-other (Block m i) (λ clash. cc) (λ clash. cc))
 
-  pub with_node-tree : IsTree (with_node cells stamp (Name d n) f payload)
-  with_node-tree = grafted_with cells made_cells tree f (Some (d, n)) made-graft made-blocks
+  made-tree : IsTree made_cells
+  made-tree = grafted_with cells made_cells tree f (Some (d, n)) made-graft made-blocks
 
-  pub with_node-below : NodesBelow f cells → NodesBelow (f + 1) (with_node cells stamp (Name d n) f payload)
-  with_node-below below m stands = on (cases_eq m f)
+  made-below : NodesBelow f cells → NodesBelow (f + 1) made_cells
+  made-below below m stands = on (cases_eq m f)
     where
       on : (m ≡ f) ⊎ (m ≢ f) → m < f + 1
       on (inl same) = omega arith
       on (inr other) =
           let low = below m (sym (ap is_some (made-other (Node m) (λ clash. cc) (node_apart m f other))) ∙ stands) in
           omega (arith, low)
+
+  pub with_node-grown : NodesBelow f cells → IsGrown (f + 1) (with_node cells stamp (Name d n) f payload)
+  with_node-grown below = record { tree = made-tree; below = made-below below }
 
 -- ---- a file that is removed
 
@@ -186,8 +189,11 @@ module _ (cells : Cells) (tree : IsTree cells) (d : ℕ) (n : List ℕ) (f : ℕ
       on (inl same) = none (λ i. removed-other (Block m i) (λ clash. cc) ∙ gone (nat_eq m f) (map.get cells (Block m i)) (eq-eqb m f same))
       on (inr other) = stay (same_size cells removed_cells m (removed-nodes m other)) (λ i. removed-other (Block m i) (λ clash. cc) ∙ kept (nat_eq m f) (map.get cells (Block m i)) (ne_eqb m f other))
 
-  pub without_file-tree : IsTree (without_file cells (Name d n) f)
-  without_file-tree = grafted_with cells removed_cells tree f None removed-graft removed-blocks
+  pub without_file-grown : (next : ℕ) → NodesBelow next cells → HasNode cells f → IsGrown next (without_file cells (Name d n) f)
+  without_file-grown next below stands = record {
+    tree = grafted_with cells removed_cells tree f None removed-graft removed-blocks;
+    below = grafted-below cells removed_cells tree f None removed-graft next below (below f stands);
+  }
 
 -- ---- a directory that is removed
 
@@ -227,8 +233,11 @@ module _ (cells : Cells) (tree : IsTree cells) (d : ℕ) (n : List ℕ) (f : ℕ
       on (inl same) = none (λ i. pruned-other (Block m i) (λ clash. cc) (λ clash. cc) ∙ no_blocks cells tree m (subst (λ x. size_at cells x ≡ 0) (sym same) sizeless) i)
       on (inr other) = stay (same_size cells pruned_cells m (pruned-other (Node m) (λ clash. cc) (node_apart m f other))) (λ i. pruned-other (Block m i) (λ clash. cc) (λ clash. cc))
 
-  pub without_directory-tree : IsTree (without_directory cells (Name d n) f)
-  without_directory-tree = grafted_with cells pruned_cells tree f None pruned-graft pruned-blocks
+  pub without_directory-grown : (next : ℕ) → NodesBelow next cells → HasNode cells f → IsGrown next (without_directory cells (Name d n) f)
+  without_directory-grown next below stands = record {
+    tree = grafted_with cells pruned_cells tree f None pruned-graft pruned-blocks;
+    below = grafted-below cells pruned_cells tree f None pruned-graft next below (below f stands);
+  }
 
 -- ---- a file that gets another name
 
@@ -287,8 +296,8 @@ module _ (cells : Cells) (tree : IsTree cells) (stamp d : ℕ) (n : List ℕ) (e
               goes (ap (map.get moved_cells) same ∙ moved-from (λ is. apart (same ∙ is))) ((λ i. child_at cells (sym one i) (sym other i)) ∙ named)
           on (inr apart) (inr also) = stays (moved-other (Name g p) also apart) (only_name cells tree d n f named g p also)
 
-  pub renamed-tree : IsTree (renamed cells stamp (Name d n) (Name e o) f)
-  renamed-tree = grafted_with cells moved_cells tree f (Some (e, o)) moved-graft (λ m. stay (same_size cells moved_cells m (moved-nodes m)) (λ i. moved-other (Block m i) (λ clash. cc) (λ clash. cc)))
+  moved-tree : IsTree moved_cells
+  moved-tree = grafted_with cells moved_cells tree f (Some (e, o)) moved-graft (λ m. stay (same_size cells moved_cells m (moved-nodes m)) (λ i. moved-other (Block m i) (λ clash. cc) (λ clash. cc)))
 
-  pub renamed-nodes : (m : ℕ) → map.contains_key (renamed cells stamp (Name d n) (Name e o) f) (Node m) ≡ map.contains_key cells (Node m)
-  renamed-nodes m = ap is_some (moved-nodes m)
+  pub renamed-grown : (next : ℕ) → NodesBelow next cells → IsGrown next (renamed cells stamp (Name d n) (Name e o) f)
+  renamed-grown next below = record { tree = moved-tree; below = λ m there. below m (sym (ap is_some (moved-nodes m)) ∙ there) }
