@@ -23,6 +23,7 @@ pub mod Prunes
 pub mod FileEdits
 pub mod TreeCalls
 pub mod LawsLemmas
+pub mod TreeLaws
 pub mod PathLemmas
 pub mod ValuesOf
 pub mod Rows

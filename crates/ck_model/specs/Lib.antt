@@ -7,6 +7,7 @@ pub mod Held
 pub mod Cells
 pub mod Walk
 pub mod Reading
+pub mod Tree
 pub mod Changes
 pub mod World
 pub mod Space
@@ -20,6 +21,5 @@ pub mod Changing
 pub mod Freezing
 pub mod Reporting
 pub mod Step
-pub mod Tree
 pub mod History
 pub mod Laws

@@ -1,12 +1,10 @@
 -- The tree rule: a map is a tree of directories, with files in them.
 use Rattle.std.specs.Prelude.{◌≡◌, ◌≢◌, ◌≤◌, ◌<◌, ℕ, ◌*◌, true, List, Option, Some, Ok, IsSomeAnd}
-use Rattle.std.specs.List.{AllByRecursion}
 use Rattle.std.specs.FinMap as map
 use Rattle.ck_model.specs.declared.key.Key.TheVariants.{Name, Node, Block}
 use Rattle.ck_model.specs.Cells.{Cells, content_at, named_node, is_directory_at, size_at}
 use Rattle.ck_model.specs.Walk.{walk}
 use Rattle.ck_model.specs.Reading.{file_byte}
-use Rattle.ck_model.specs.World.{World}
 
 abbrev pub HasName : Cells → ℕ → List ℕ → Type 0
 HasName cells directory name = map.contains_key cells (Name directory name) ≡ true
@@ -47,8 +45,3 @@ NodesBelow next cells = (node : ℕ) → HasNode cells node → node < next
 pub record IsGrown (next : ℕ) (cells : Cells) : Type 0 where
   pub tree : IsTree cells
   pub below : NodesBelow next cells
-
--- the primary map and those of all checkpoints are trees
-pub record HasTrees (w : World) : Type 0 where
-  pub primary : IsGrown w.next.number w.primary
-  pub checkpoints : AllByRecursion (λ checkpoint. IsGrown w.next.number checkpoint.cells) w.checkpoints
