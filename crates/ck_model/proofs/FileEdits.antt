@@ -218,16 +218,16 @@ module _ (next : ℕ) (cells : Cells) (before : IsGrown next cells) (stamp f siz
       → ((place : ℕ) → size ≤ place → block_byte base f (place / 4096) (place % 4096) ≡ 0)
       → IsGrown next (with_cells base ((Node f, cell_of stamp (File size)) ∷ []))
   resize base same below empty = rewritten next cells after f before (record {
-      names = λ d n. as_before (Name d n) (λ clash. cc) (λ i clash. cc);
-      nodes = λ m other. as_before (Node m) (λ is. other (cc)) (λ i clash. cc);
-      others = λ m other i. as_before (Block m i) (λ clash. cc) (λ j is. other (cc));
-      stood = stood;
-      stands = ap is_some own;
-      was_file = was_file;
-      file = ap (λ o. is_directory (option_and_then (λ (cell : Cell). cell.payload) o)) own;
-      blocks = λ i stands. subst (λ n. i * 4096 < n) (sym is_size) (below i (sym (same_stands base after (Block f i) (kept (Block f i) (λ clash. cc))) ∙ stands));
-      zeros = λ place past. same_byte base after f (place / 4096) (place % 4096) (kept (Block f (place / 4096)) (λ clash. cc)) ∙ empty place (subst (λ n. n ≤ place) is_size past);
-    })
+    names = λ d n. as_before (Name d n) (λ clash. cc) (λ i clash. cc);
+    nodes = λ m other. as_before (Node m) (λ is. other (cc)) (λ i clash. cc);
+    others = λ m other i. as_before (Block m i) (λ clash. cc) (λ j is. other (cc));
+    stood = stood;
+    stands = ap is_some own;
+    was_file = was_file;
+    file = ap (λ o. is_directory (option_and_then (λ (cell : Cell). cell.payload) o)) own;
+    blocks = λ i stands. subst (λ n. i * 4096 < n) (sym is_size) (below i (sym (same_stands base after (Block f i) (kept (Block f i) (λ clash. cc))) ∙ stands));
+    zeros = λ place past. same_byte base after f (place / 4096) (place % 4096) (kept (Block f (place / 4096)) (λ clash. cc)) ∙ empty place (subst (λ n. n ≤ place) is_size past);
+  })
     where
       after : Cells
       after = with_cells base ((Node f, cell_of stamp (File size)) ∷ [])

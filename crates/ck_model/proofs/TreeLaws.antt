@@ -16,6 +16,7 @@ use Rattle.ck_model.specs.declared.call.Call.TheVariants.{Make, Mkdir, Rm, Rmdir
 use Rattle.ck_model.specs.declared.entry.Entry.{Entry}
 use Rattle.ck_model.specs.declared.reply.Reply.{Reply}
 use Rattle.ck_model.specs.declared.reply.Reply.TheVariants.{Done, Delayed, Created, NoCkpt, NotData, InUse}
+use Rattle.ck_model.specs.Key.{key_cmp}
 use Rattle.ck_model.specs.Cells.{Cells, bytes_in, mark_of, marked, is_directory, is_directory_at, size_at}
 use Rattle.ck_model.specs.Walk.{walk_from}
 use Rattle.ck_model.specs.Reading.{file_byte, block_byte}
@@ -137,7 +138,7 @@ with_room-grows w grown effect new reply h =
     let given = given_up (length w.checkpoints) effect new w in
     let left = without_picks given w in
     let fewer = fewer-grows w left grown (without_picks-rest given w) in
-    elim (fits left (effect left) new) as (λ b. GrowsFrom w ((if b then record { reply = reply; given = given; next = effect left } else record { reply = no_space left (effect left) new; given = given; next = left }).next)) [
+    elim (fits left (effect left) new) as (λ b. GrowsFrom w (if◌then◌else◌ {A = Outcome} b (record { reply = reply; given = given; next = effect left }) (record { reply = no_space left (effect left) new; given = given; next = left })).next) [
       | true ↦ h left fewer
       | false ↦ fewer
     ]
@@ -257,7 +258,7 @@ root-node : map.get root_cells (Node 0) ≡ Some (cell_of 0 Dir)
 root-node = get-insert_same map.empty (Node 0) (cell_of 0 Dir)
 
 root-other : (q : Key) → q ≢ Node 0 → map.get root_cells q ≡ None
-root-other q apart = get-insert_other map.empty (Node 0) (cell_of 0 Dir) q apart
+root-other q apart = get-insert_other map.empty (Node 0) (cell_of 0 Dir) q apart ∙ map.get-empty key_cmp q
 
 root-name : (d : ℕ) (n : List ℕ) → HasName root_cells d n → ⊥
 root-name d n stands = let none : map.contains_key root_cells (Name d n) ≡ false = ap is_some (root-other (Name d n) (λ clash. cc)) in cc
