@@ -26,7 +26,7 @@ shown_later c d later h =
 shown_new : (w : World) (new : Checkpoint) → shown_by new.kind w.primary ≡ new.cells → IsShown new
 shown_new w new h = ap (shown_by new.kind) (sym h) ∙ shown_again new.kind w.primary ∙ h
 
-IsWorld-adds : (w next : World) (new : Option ℕ) → Adds w new next → IsWorld w → IsWorld next
+pub IsWorld-adds : (w next : World) (new : Option ℕ) → Adds w new next → IsWorld w → IsWorld next
 IsWorld-adds w next None h world = record {
   ids = subst (IdsRise 1 next.checkpoints) (sym h.id) (IdsRise-remain h.remain 1 w.next.id world.ids);
   marks = All-remain IsShown IsShown shown_later h.remain world.marks;

@@ -15,7 +15,15 @@ pub mod FreezingLemmas
 pub mod ReportingLemmas
 pub mod StepLemmas
 pub mod HistoryLemmas
+pub mod Lookups
+pub mod Walks
+pub mod Grafts
+pub mod FileBytes
+pub mod Prunes
+pub mod FileEdits
+pub mod TreeCalls
 pub mod LawsLemmas
+pub mod TreeLaws
 pub mod PathLemmas
 pub mod ValuesOf
 pub mod Rows

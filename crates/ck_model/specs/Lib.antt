@@ -7,6 +7,7 @@ pub mod Held
 pub mod Cells
 pub mod Walk
 pub mod Reading
+pub mod Tree
 pub mod Changes
 pub mod World
 pub mod Space
