@@ -1,3 +1,4 @@
 pub mod Moments
 pub mod Steps
 pub mod Tearing
+pub mod Losing

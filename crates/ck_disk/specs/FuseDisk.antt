@@ -1,6 +1,8 @@
 -- A disk with a fuse: what it has, and what it means over the disk below.
-use Rattle.std.specs.Prelude.{◌+◌, ℕ}
+use Rattle.std.specs.Prelude.{ℕ}
 use Rattle.ck_disk.specs.Disk.{Meaning, Lawful}
+use Rattle.ck_disk.specs.Lost.{places_of, but_lost}
+use Rattle.ck_disk.specs.LostLaws.{but_lost_lawful}
 use Rattle.ck_disk.specs.declared.fuse_disk.FuseDisk.{FuseDisk}
 
 -- the disk below
@@ -15,27 +17,9 @@ passes_of f = f.passes
 abbrev pub own_faults_of : {D : Type 0} → FuseDisk D → ℕ × ℕ
 own_faults_of f = (f.read_faults, f.write_faults)
 
--- what the disk below means, with those failures beside its own
+-- what the disk below means, with those failures beside its own, and the blocks whose writes it failed
 abbrev pub meaning : {D : Type 0} → (D → Meaning) → FuseDisk D → Meaning
-meaning means f = let m = means f.inner in record {
-  tells = m.tells;
-  shows = m.shows;
-  may_leave = m.may_leave;
-  written = m.written;
-  moment = m.moment;
-  left_since = m.left_since;
-  size = m.size;
-  read_faults = m.read_faults + f.read_faults;
-  write_faults = m.write_faults + f.write_faults;
-}
+meaning means f = but_lost (places_of f.lost) f.read_faults f.write_faults (means f.inner)
 
 pub lawful_meaning : {D : Type 0} (means : D → Meaning) → ((disk : D) → Lawful (means disk)) → (f : FuseDisk D) → Lawful (meaning means f)
-lawful_meaning means lawful f = let law = lawful f.inner in record {
-  counts_now = law.counts_now;
-  only_now = law.only_now;
-  shown = law.shown;
-  clean = law.clean;
-  torn = law.torn;
-  whole = law.whole;
-  fits = law.fits;
-}
+lawful_meaning means lawful f = but_lost_lawful (places_of f.lost) f.read_faults f.write_faults (means f.inner) (lawful f.inner)

@@ -1,4 +1,6 @@
 pub mod Disk
+pub mod Lost
+pub mod LostLaws
 pub mod FuseDisk
 pub mod FileDisk
 pub mod MemRecord

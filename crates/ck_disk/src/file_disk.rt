@@ -3,11 +3,12 @@ ghost use Rattle.std.specs.Prelude.{◌≡◌, ◌<◌, ◌≤◌, ◌*◌, ◌/
 ghost use Rattle.ck_disk.specs.Disk.{Step, Within, TearsAt, Only, IsSynced, Rose, KeepsClean, KeepsCleanBut};
 
 use crate::disk::{Block, Disk, Failed};
-use std::fs::{File, OpenOptions};
-use std::io;
+use std::fs::{File, OpenOptions, TryLockError};
+use std::io::{Seek, SeekFrom};
 use std::os::fd::AsRawFd;
 use std::os::unix::fs::FileExt;
 use std::rt::Files;
+use std::{fs, io};
 
 /// How many bytes a block has in the file.
 const BLOCK_BYTES: u64 = 4096;
@@ -34,20 +35,21 @@ impl FileDisk {
     ghost use Rattle.ck_disk.specs.FileDisk.{meaning, faults_of};
 
     /// A disk over the file at this path, opened for reading and writing. It has as many blocks as are whole in the
-    /// file, and at most 4,294,967,295. It fails where no file is there, where a folder is, where the file may not be
-    /// both read and written, and where the system refuses for another cause. It makes no file and changes none.
+    /// file, and at most 4,294,967,295. The end is found by a seek, so that a block device serves as a file does. It
+    /// fails where no file is there, where a folder is, where the file may not be both read and written or has no end
+    /// to be found, and where the system refuses for another cause. It makes no file and changes none.
     pub fn open_image<R: Files<File = File>>(rt: &R, path: &str) -> Result<FileDisk, Failed>
         ensures no_faults { IfOk result (λ disk. faults_of disk ≡ (0, 0)) }
     {
         let file = OpenOptions::new().read(true).write(true).open(rt, path)?;
-        let file = off_the_streams(file)?;
-        let bytes = file.metadata()?.len();
+        let mut file = off_the_streams(file)?;
+        let bytes = file.seek(SeekFrom::End(0))?;
         Ok(FileDisk::over(file, whole_blocks(bytes)))
     }
 
     /// A disk over a new file of so many blocks of zeros at this path. It fails where anything is at the path already,
     /// which it leaves as it is, and where the system refuses the file or its length. A file whose length was refused
-    /// stays, with no block.
+    /// is taken away.
     pub fn create<R: Files<File = File>>(
         rt: &R,
         path: &str,
@@ -56,9 +58,19 @@ impl FileDisk {
         ensures blocks { IfOk result (λ disk. (meaning disk).size ≡ blocks) }
         ensures no_faults { IfOk result (λ disk. faults_of disk ≡ (0, 0)) }
     {
-        let file = off_the_streams(File::create_new(rt, path)?)?;
-        file.set_len(u64::from(blocks) * BLOCK_BYTES)?;
-        Ok(FileDisk::over(file, blocks))
+        match with_blocks(File::create_new(rt, path)?, blocks) {
+            Ok(file) => Ok(FileDisk::over(file, blocks)),
+            Err(_) => {
+                let _ = fs::remove_file(rt, path);
+                Err(Failed)
+            }
+        }
+    }
+
+    /// Takes the file's exclusive lock, which goes with this disk. `WouldBlock` says that another disk over the file
+    /// has it. The lock holds back nobody who doesn't ask for it.
+    pub fn try_lock(&self) -> Result<(), TryLockError> {
+        self.file.try_lock()
     }
 
     fn over(file: File, size: u32) -> FileDisk
@@ -72,6 +84,13 @@ impl FileDisk {
             write_faults: 0,
         }
     }
+}
+
+/// The file with so many blocks of zeros, where it was empty.
+fn with_blocks(file: File, blocks: u32) -> io::Result<File> {
+    let file = off_the_streams(file)?;
+    file.set_len(u64::from(blocks) * BLOCK_BYTES)?;
+    Ok(file)
 }
 
 /// Where a standard stream was closed before, a file that is opened gets its number, and what the program prints would

@@ -1,16 +1,21 @@
 // A disk that passes so many calls on, and then fails every call.
-ghost use Rattle.std.specs.Prelude.{◌≡◌, ◌≢◌, ◌<◌, ◌≤◌, ◌-◌, ℕ, List, IsTrue, IsErr, OnOk, OnErr, get_or, set, []};
+ghost use Rattle.ck_disk.specs.Lost.{places_of};
+ghost use Rattle.std.specs.Prelude.{◌≡◌, ◌≢◌, ◌<◌, ◌≤◌, ◌-◌, ℕ, List, IsTrue, IsErr, OnOk, OnErr, get_or, set, true, []};
 ghost use Rattle.ck_disk.specs.Disk.{Step, Within, TearsAt, Only, IsSynced, Rose, KeepsClean, KeepsCleanBut};
 
 use crate::disk::{Block, Disk, Failed};
+use crate::lost::Lost;
 
-/// A disk over another one, which it passes so many calls and then none. It shows what a stop of the device leaves.
+/// A disk over another one, which it passes so many calls and then none. It shows what a stop of the device leaves: a
+/// block whose write it failed itself may hold anything after a crash, though the disk below wasn't called.
 #[derive(Drop)]
 pub struct FuseDisk<D> {
     inner: D,
     passes: u64,
     read_faults: u64,
     write_faults: u64,
+    lost: Lost,
+    ghost intact: { 0 < passes → places_of lost ≡ [] },
 }
 
 impl<D: Disk> FuseDisk<D> {
@@ -26,6 +31,7 @@ impl<D: Disk> FuseDisk<D> {
             passes,
             read_faults: 0,
             write_faults: 0,
+            lost: Lost::Nothing,
         }
     }
 
@@ -37,6 +43,7 @@ impl<D: Disk> FuseDisk<D> {
             passes: _,
             read_faults: _,
             write_faults: _,
+            lost: _,
         } = self;
         inner
     }
@@ -94,9 +101,13 @@ impl<D: Disk> Disk for FuseDisk<D> {
         ensures spent { passes_of self.old ≡ 0 → IsErr result }
         ensures untouched { passes_of self.old ≡ 0 → inner_of self.new ≡ inner_of self.old }
         ensures passed { 0 < passes_of self.old → OnErr result (Rose (D.means (inner_of self.old)).write_faults (D.means (inner_of self.new)).write_faults) }
+
+        // A write that it fails itself counts as written.
+        ensures lost { passes_of self.old ≡ 0 → (meaning D.means self.new).written at ≡ true }
     {
         if self.passes == 0 {
             self.write_faults = self.write_faults.saturating_add(1);
+            self.lost = self.lost.more(at);
             return Err(Failed);
         }
         self.passes -= 1;

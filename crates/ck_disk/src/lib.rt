@@ -4,6 +4,7 @@
 mod disk;
 mod file_disk;
 mod fuse_disk;
+mod lost;
 mod mem_disk;
 mod memory;
 

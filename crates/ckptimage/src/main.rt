@@ -4,6 +4,7 @@
 use ck_image::image_top;
 use ck_io::{StdSink, StdSource, write_all};
 use ck_report::Status;
+use std::io::ErrorKind;
 use std::process::ExitCode;
 use std::{env, io};
 
@@ -66,8 +67,11 @@ fn run(rt: &HostRuntime, words: &[String]) -> u8 {
 }
 
 fn main(rt: HostRuntime) -> ExitCode {
-    let Ok(words) = words_of(&rt) else {
-        return ExitCode::from(8);
+    let words = match words_of(&rt) {
+        Ok(words) => words,
+        // A word that isn't UTF-8 matches no pattern, as no words at all don't.
+        Err(error) if error.kind() == ErrorKind::InvalidData => Vec::new(rt.alloc()),
+        Err(_) => return ExitCode::from(8),
     };
     if is_only(&words, "--help") {
         return ExitCode::from(print(&rt, HELP));

@@ -9,8 +9,12 @@ use ck_io::{Clock, FixedClock, StdSink, StdSource, SystemClock, write_all};
 use ck_log::device_blocks;
 use ck_report::Status;
 use ck_words::{Command, match_words};
+use std::alloc::AllocError;
+use std::env::FillError;
+use std::fs::TryLockError;
+use std::io;
 use std::process::ExitCode;
-use std::{env, io};
+use std::rt::Env;
 
 const HELP: &[u8] = b"usage: fsckptadm COMMAND IMAGE
 
@@ -22,7 +26,8 @@ IMAGE is a file, which mkfs makes where there is none, or -, a new volume in mem
 
 const VERSION: &[u8] = b"fsckptadm 0.2\n";
 
-const IMAGE_FAULT: &[u8] = b"can't open the image\n";
+/// More bytes than a path may have.
+const WORD_BYTES: usize = 4096;
 
 /// How many blocks the device in memory has.
 const BLANK_BLOCKS: u32 = 85;
@@ -41,20 +46,62 @@ fn exit_status(status: &Status) -> u8 {
     }
 }
 
-/// The words behind the program's name.
-fn words_of(rt: &HostRuntime) -> io::Result<Vec<String>> {
+/// Why there is no device to run a command on.
+#[derive(Drop)]
+enum ImageFault {
+    NotOpened,
+    InUse,
+}
+
+impl ImageFault {
+    fn line(&self) -> &'static [u8] {
+        match self {
+            ImageFault::NotOpened => b"can't open the image\n",
+            ImageFault::InUse => b"the image is in use\n",
+        }
+    }
+}
+
+/// A word as text, where it is UTF-8.
+fn text_of(rt: &HostRuntime, word: &[u8]) -> Result<Option<String>, AllocError> {
+    match str::from_utf8(word) {
+        Ok(text) => Ok(Some(text.to_string(rt.alloc())?)),
+        Err(_) => Ok(None),
+    }
+}
+
+/// The words behind the program's name. One that isn't UTF-8, or is longer than any path, stands as None: it matches
+/// no pattern, and no image has such a path.
+fn words_of(rt: &HostRuntime) -> Result<Vec<Option<String>>, AllocError> {
     let mut words = Vec::new(rt.alloc());
-    for word in env::args(rt)?.skip(1) {
-        words.push(word)?;
+    let mut buffer = [0; WORD_BYTES];
+    for place in 1..usize::MAX {
+        match rt.arg(place, &mut buffer) {
+            Ok(length) => words.push(text_of(rt, &buffer[..length])?)?,
+            Err(FillError::TooLong) => words.push(None)?,
+            Err(FillError::NotPresent) => break,
+        }
     }
     Ok(words)
 }
 
-fn is_only(words: &[String], text: &str) -> bool {
+fn is_only(words: &[Option<String>], text: &str) -> bool {
     match words {
-        [word] => word.as_str() == text,
+        [Some(word)] => word.as_str() == text,
         _ => false,
     }
+}
+
+/// The words of a command, or none where one of them isn't text.
+fn command_words(rt: &HostRuntime, words: Vec<Option<String>>) -> Result<Vec<String>, AllocError> {
+    let mut command = Vec::new(rt.alloc());
+    for word in words {
+        match word {
+            Some(text) => command.push(text)?,
+            None => return Ok(Vec::new(rt.alloc())),
+        }
+    }
+    Ok(command)
 }
 
 /// Runs a command on a device, and gives its exit status and the device back.
@@ -106,29 +153,41 @@ fn run_in_memory(rt: &HostRuntime, words: &[String]) -> u8 {
     run_on(rt, words, disk, &mut clock).0
 }
 
-/// Runs a command on an image, or says that it couldn't be opened.
-fn run_on_image(rt: &HostRuntime, words: &[String], opened: Option<FileDisk>) -> u8 {
+/// Runs a command on an image, or says why it can't.
+fn run_on_image(rt: &HostRuntime, words: &[String], opened: Result<FileDisk, ImageFault>) -> u8 {
     match opened {
-        Some(disk) => run_on(rt, words, disk, &mut SystemClock::new(rt)).0,
-        None => {
+        Ok(disk) => run_on(rt, words, disk, &mut SystemClock::new(rt)).0,
+        Err(fault) => {
             let errors = rt.stderr();
-            let _ = write_all(&mut StdSink::new(io::writer(&errors)), IMAGE_FAULT);
+            let _ = write_all(&mut StdSink::new(io::writer(&errors)), fault.line());
             9
         }
     }
 }
 
 /// The image that a command works on. `mkfs` makes it where there is none.
-fn open_image(rt: &HostRuntime, command: Command, path: &str) -> Option<FileDisk>
+fn open_image(rt: &HostRuntime, command: Command, path: &str) -> Result<FileDisk, ImageFault>
     requires { IsWithin command }
 {
     if let Command::Mkfs(blocks, records) = command {
         let needs = device_blocks(blocks, records);
         if let Ok(disk) = FileDisk::create(rt, path, needs) {
-            return Some(disk);
+            return locked(disk);
         }
     }
-    FileDisk::open_image(rt, path).ok()
+    match FileDisk::open_image(rt, path) {
+        Ok(disk) => locked(disk),
+        Err(_) => Err(ImageFault::NotOpened),
+    }
+}
+
+/// The same device, which no other run has from now on.
+fn locked(disk: FileDisk) -> Result<FileDisk, ImageFault> {
+    match disk.try_lock() {
+        Ok(()) => Ok(disk),
+        Err(TryLockError::WouldBlock) => Err(ImageFault::InUse),
+        Err(TryLockError::Error(_)) => Err(ImageFault::NotOpened),
+    }
 }
 
 /// Words that match no command are refused before the image is looked at.
@@ -141,17 +200,19 @@ fn refuse(rt: &HostRuntime, words: &[String]) -> u8 {
 }
 
 /// The last word is the image.
-fn run(rt: &HostRuntime, mut words: Vec<String>) -> u8 {
-    let Some(image) = words.pop() else {
-        return refuse(rt, &words);
+fn run(rt: &HostRuntime, mut words: Vec<Option<String>>) -> u8 {
+    let image = words.pop().flatten();
+    let Ok(words) = command_words(rt, words) else {
+        return 8;
     };
     let Some(command) = match_words(&words) else {
         return refuse(rt, &words);
     };
-    if image.as_str() == "-" {
-        return run_in_memory(rt, &words);
-    }
-    let opened = open_image(rt, command, image.as_str());
+    let opened = match image {
+        Some(path) if path.as_str() == "-" => return run_in_memory(rt, &words),
+        Some(path) => open_image(rt, command, path.as_str()),
+        None => Err(ImageFault::NotOpened),
+    };
     run_on_image(rt, &words, opened)
 }
 
