@@ -10,9 +10,9 @@ use Rattle.std.specs.FinMap.{IsAntisymmetric, find, is_sorted}
 use Rattle.std.specs.FinMap.Entries.{below_all}
 use Rattle.std.proofs.lemmas.Cmp.{tied_itself, eq_by_cmp_equiv}
 use mathlib.Core.Bool.{false≢true}
-use Rattle.ck_model.proofs.CellsLemmas.{equal}
-use Rattle.ck_model.proofs.Rows.{head_of}
-use Rattle.ck_model.proofs.Filesets.{all_found}
+use Rattle.ck_model.proofs.CellLaws.{equal}
+use Rattle.ck_model.proofs.CaseLaws.{head_of}
+use Rattle.ck_model.proofs.FilesetLaws.{all_found}
 
 -- each of these keeps P with those before it, and the front stands before them all
 abbrev pub Each : {X : Type 0} → (List X → X → Type 0) → List X → List X → Type 0

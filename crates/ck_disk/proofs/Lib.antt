@@ -1,3 +1,3 @@
-pub mod Moments
+pub mod MomentLaws
 pub mod Steps
 pub mod Tearing

@@ -4,10 +4,6 @@ use Rattle.std.proofs.lemmas.List.{take-append-drop, append-nil, take_all, take_
 use Rattle.std.proofs.Math.Seq.{take-add}
 use Rattle.ck_io.specs.Bytes.{EndsWith, GainsPrefix}
 
--- what tells before a call tells after it, and the other way round
-pub told_on : (old new : Bool) → new ≡ old → IsTrue old → IsTrue new
-told_on old new same told = subst (λ (b : Bool). IsTrue b) (sym same) told
-
 pub ends_at_start : (bytes : List ℕ) → EndsWith bytes bytes
 ends_at_start bytes = record { taken = []; parts = refl }
 
@@ -31,24 +27,6 @@ gains_nothing old bytes = record { gained = []; missing = bytes; parts = refl; a
 
 pub gains_all : (old new bytes : List ℕ) → new ≡ old ++ bytes → GainsPrefix old new bytes
 gains_all old new bytes is = record { gained = bytes; missing = []; parts = sym (append-nil bytes); appended = is }
-
--- the first of two runs of bytes was written in part
-pub gains_first : (old new first second : List ℕ) → GainsPrefix old new first → GainsPrefix old new (first ++ second)
-gains_first old new first second part = record {
-  gained = part.gained;
-  missing = part.missing ++ second;
-  parts = ap (λ (l : List ℕ). l ++ second) part.parts ∙ append_assoc part.gained part.missing second;
-  appended = part.appended;
-}
-
--- the first of two runs of bytes was written, and the second in part
-pub gains_second : (old mid new first second : List ℕ) → mid ≡ old ++ first → GainsPrefix mid new second → GainsPrefix old new (first ++ second)
-gains_second old mid new first second is part = record {
-  gained = first ++ part.gained;
-  missing = part.missing;
-  parts = ap (λ (l : List ℕ). first ++ l) part.parts ∙ sym (append_assoc first part.gained part.missing);
-  appended = part.appended ∙ ap (λ (l : List ℕ). l ++ part.gained) is ∙ append_assoc old first part.gained;
-}
 
 -- the bytes from a place on, as a slice to their end
 pub slice_rest : (written : ℕ) (bytes : List ℕ) → take (length bytes - written) (drop written bytes) ≡ drop written bytes

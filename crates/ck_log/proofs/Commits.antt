@@ -2,11 +2,11 @@
 use Rattle.std.proofs.Common.{◌≡◌, ◌≢◌, ◌-◌, ◌⊎◌, inl, ⊎_elim, ◌==◌, ℕ, Bool, false, IsTrue, not, [], length, refl, sym, ◌∙◌, ap, subst}
 use Rattle.std.proofs.lemmas.Bool.{false≢true}
 use Rattle.ck_disk.specs.Disk.{Image, Meaning, Lawful, LeavesOnly, Reaches, Outside, Agrees, IsSynced}
-use Rattle.ck_disk.proofs.Moments.{weakens, joins, now, synced_only, agrees_less, agrees_on}
+use Rattle.ck_disk.proofs.MomentLaws.{weakens, joins, now, synced_only, agrees_less, agrees_on}
 use Rattle.ck_log.specs.Layout.{Layout, table_blocks, area_at, base_of}
 use Rattle.ck_log.specs.Images.{part, table_on, HasTable, HasBefore, HasAfter, Settled}
 use Rattle.ck_log.specs.Group.{IsWhole}
-use Rattle.ck_log.proofs.Areas.{outside_area, others_gate}
+use Rattle.ck_log.proofs.AreaLaws.{outside_area, others_gate}
 use Rattle.ck_log.proofs.Phases.{staged, opened}
 
 pub told_on : (old new : Bool) → new ≡ old → IsTrue old → IsTrue new

@@ -1,7 +1,7 @@
 -- One run of writes within another.
 use Rattle.std.proofs.Common.{ℕ}
 use Rattle.ck_disk.specs.Disk.{Image, Meaning, Lawful, LeavesOnly, Reaches}
-use Rattle.ck_disk.proofs.Moments.{started, weakens, joins, now, agrees_same, agrees_less, agrees_on}
+use Rattle.ck_disk.proofs.MomentLaws.{started, weakens, joins, now, agrees_same, agrees_less, agrees_on}
 
 -- before the first write
 pub reaches_start : (K : ℕ → Type 0) (m : Meaning) → Lawful m → LeavesOnly m m (Reaches K m.may_leave)

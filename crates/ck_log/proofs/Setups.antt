@@ -2,16 +2,16 @@
 use Rattle.std.proofs.Common.{◌≡◌, ◌≢◌, inl, inr, ⊎_elim, ◌≤◌, ◌<◌, ◌+◌, ◌-◌, ◌==◌, ℕ, false, IsTrue, List, [], length, get_or, set, replicate, refl, sym, ◌∙◌, ap, subst, arith, get_or-set_same}
 use Rattle.std.proofs.lemmas.List.{length-set}
 use Rattle.ck_disk.specs.Disk.{Image, Meaning, Lawful, Step, LeavesOnly, Reaches, Outside, Agrees, IsSynced, TearsAt}
-use Rattle.ck_disk.proofs.Moments.{writes_on, weakens, joins, now, synced_only, agrees_set, agrees_on, agrees_less}
+use Rattle.ck_disk.proofs.MomentLaws.{writes_on, weakens, joins, now, synced_only, agrees_set, agrees_on, agrees_less}
 use Rattle.ck_log.specs.Layout.{Layout, IsSized, table_blocks, area_at, base_of, size_of}
 use Rattle.ck_log.specs.Header.{Opens, header_of, recovered_by}
 use Rattle.ck_log.specs.Images.{part, names_second, recovered_region, HasTable}
 use Rattle.ck_log.specs.FirstTable.{blank_block, first_block, first_table, WholeOrBefore}
 use Rattle.ck_log.proofs.Parts.{part_first}
-use Rattle.ck_log.proofs.Areas.{first_area-low, area_low, others_gate, table_at}
+use Rattle.ck_log.proofs.AreaLaws.{first_area-low, area_low, others_gate, table_at}
 use Rattle.ck_log.proofs.Commits.{told_on}
 use Rattle.ck_log.proofs.Phases.{apart_gate, same_gate, put_gate}
-use Rattle.ck_log.proofs.Recovery.{recovered_read, recovered_by-header_of, has_table-agrees}
+use Rattle.ck_log.proofs.RecoveryLaws.{recovered_read, recovered_by-header_of, has_table-agrees}
 use Rattle.ck_log.proofs.Runs.{reaches_start, runs_on}
 
 -- places outside a run lie outside its first block, and outside the rest

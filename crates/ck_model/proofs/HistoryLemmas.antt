@@ -43,10 +43,6 @@ fault-legal texts w call entry fault few =
     let outcome = step texts w entry.actor entry.at call in
     subst (λ b. MatchBool b (entry.given ≤ outcome.given) (IsStepOf outcome entry)) (sym fault) few
 
-pub world_after-fault : (texts : Texts) (w : World) (call : Call) (entry : Entry) → is_fault entry.reply ≡ true → world_after texts w call entry ≡ without_picks entry.given w
-world_after-fault texts w call entry fault =
-    ap (λ b. if b then without_picks entry.given w else (step texts w entry.actor entry.at call).next) fault
-
 -- the new checkpoint whose id the entry has comes, if there is one
 pub legal-adds : (texts : Texts) (w : World) (call : Call) (entry : Entry) → IsLegalAt texts w call entry → Adds w (created_id entry.reply) (world_after texts w call entry)
 legal-adds texts w call entry legal =
@@ -71,17 +67,9 @@ past_after-adds texts calls past entry =
       ]
     ]
 
-pub past_of-append : (texts : Texts) (calls : CallsBy) (past : Past) (first more : List Entry) → past_of texts calls past (first ++ more) ≡ past_of texts calls (past_of texts calls past first) more
-past_of-append texts calls past [] more = refl
-past_of-append texts calls past (entry ∷ first) more = past_of-append texts calls (past_after texts calls past entry) first more
-
 pub length-past_of : (texts : Texts) (calls : CallsBy) (past : Past) (history : List Entry) → (past_of texts calls past history).length ≡ past.length + length history
 length-past_of texts calls past [] = sym (add-zero past.length)
 length-past_of texts calls past (entry ∷ history) = let rest = length-past_of texts calls (past_after texts calls past entry) history in omega (arith, rest)
-
-pub IsLegalFrom-append : (texts : Texts) (calls : CallsBy) (past : Past) (first more : List Entry) → IsLegalFrom texts calls past first → IsLegalFrom texts calls (past_of texts calls past first) more → IsLegalFrom texts calls past (first ++ more)
-IsLegalFrom-append texts calls past [] more h rest = rest
-IsLegalFrom-append texts calls past (entry ∷ first) more h rest = (h.0, IsLegalFrom-append texts calls (past_after texts calls past entry) first more h.1 rest)
 
 -- a legal history's beginning is legal, and what follows is legal behind it
 pub IsLegalFrom-first : (texts : Texts) (calls : CallsBy) (past : Past) (first more : List Entry) → IsLegalFrom texts calls past (first ++ more) → IsLegalFrom texts calls past first

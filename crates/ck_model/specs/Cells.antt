@@ -87,3 +87,15 @@ differences a b =
     map.retain_keys
     (map.from_entries (list_map (λ e. (e.0, Some e.1)) (map.entries b) ++ list_map (λ e. (e.0, None)) (map.entries a)))
     (λ key. differs (map.get a key) (map.get b key))
+
+-- the keys that the second map has in another version or anew
+abbrev pub is_new_in : Cells → Cells → Key → Bool
+is_new_in a b key = differs (map.get a key) (map.get b key)
+
+-- the keys that the second map lacks
+abbrev pub is_gone_in : Cells → Key → Bool
+is_gone_in b key = not (map.contains_key b key)
+
+-- an entry with its block as a mark
+abbrev pub mark_entry : Key × Cell → Key × Cell
+mark_entry e = (e.0, mark_of e.0 e.1)

@@ -22,3 +22,6 @@ pub mod Reporting
 pub mod Step
 pub mod History
 pub mod Laws
+pub mod Ordinary
+pub mod Rows
+pub mod Placed

@@ -1,5 +1,5 @@
 -- The world that a table stands for over the data blocks of a device.
-use Rattle.std.specs.Prelude.{ℕ, not, List, [], ◌∷◌, ◌++◌, Option, Some, None, length, filter, map as list_map}
+use Rattle.std.specs.Prelude.{ℕ, not, List, [], ◌∷◌, ◌++◌, Option, Some, None, length, filter, map as list_map, Bool}
 use Rattle.std.specs.FinMap as map
 use Rattle.ck_model.specs.declared.key.Key.{Key}
 use Rattle.ck_model.specs.declared.held.Held.{Held}
@@ -9,6 +9,9 @@ use Rattle.ck_model.specs.World.{World, Checkpoint, Mounts, shown_by}
 use Rattle.ck_model.specs.Table.{Table}
 use Rattle.ck_model.specs.Chain.{value_at}
 use Rattle.ck_model.specs.Values.{Store, Values, cells_on}
+use Rattle.std.specs.Ordering.{eq_by_cmp}
+use Rattle.std.specs.List.{list_any}
+use Rattle.ck_model.specs.Key.{key_cmp}
 
 -- the keys of all entries, whatever their filesets
 abbrev pub keys_of : Table → List Key
@@ -74,3 +77,7 @@ extents_of t = blocks_of (map.entries t.entries)
 
 abbrev pub extent_count : Table → ℕ
 extent_count t = length (extents_of t)
+
+-- the key is one of these
+abbrev pub is_among : Key → List Key → Bool
+is_among q keys = list_any (λ key. eq_by_cmp key_cmp q key) keys

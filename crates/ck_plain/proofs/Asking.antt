@@ -11,7 +11,7 @@ use Rattle.ck_model.specs.World.{World, Checkpoint, shown_by, without_checkpoint
 use Rattle.ck_model.specs.Space.{fits, no_space, given_up, without_picks, records_in, next_cells, difference_count}
 use Rattle.ck_model.specs.Freezing.{kind_of, frozen_world}
 use Rattle.ck_model.specs.Step.{Outcome, with_room}
-use Rattle.ck_model.proofs.Differences.{len-differences_shown, len-shown_differences}
+use Rattle.ck_model.proofs.DifferenceLaws.{len-differences_shown, len-shown_differences}
 use Rattle.ck_plain.specs.Outcome.{with_files}
 use Rattle.ck_plain.specs.Room.{Ask, held_beside, records_beside, records_after, has_room, space_lack, pick_among, without_id, left_of, picks_for}
 

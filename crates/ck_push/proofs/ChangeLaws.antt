@@ -14,9 +14,9 @@ use Rattle.ck_model.specs.Rules.{IsOrderly, IsOwn, KeyBelow, HeldBelow, stamp_in
 use Rattle.ck_chain.specs.Kept.{pushed}
 use Rattle.ck_chain.specs.Naming.{block_of, IsNamed}
 use Rattle.ck_chain.specs.Needless.{tidied}
-use Rattle.ck_chain.proofs.Basics.{some_is, some_same}
-use Rattle.ck_chain.proofs.Laws.{last_passes}
-use Rattle.ck_chain.proofs.Columns.{column-with_entry}
+use Rattle.ck_model.proofs.CaseLaws.{some_is, some_same}
+use Rattle.ck_chain.proofs.ReadLaws.{last_passes}
+use Rattle.ck_chain.proofs.ColumnLaws.{column-with_entry}
 use Rattle.ck_chain.proofs.TidyLaws.{column-tidied}
 use Rattle.ck_chain.specs.Changes.{key_of, is_deletion, value_after}
 use Rattle.ck_push.specs.Changed.{push_into, push_of, replaced, tidied_in, changed}

@@ -16,11 +16,12 @@ use Rattle.ck_model.specs.Chain.{is_covered, is_gone, is_live, keeps_data, newes
 use Rattle.ck_model.specs.Rules.{IsOrderly, IsOwn, first_holder}
 use Rattle.ck_chain.specs.Kept.{pushed}
 use Rattle.ck_chain.specs.Needless.{is_absent, says_nothing, is_needless, tidied}
-use Rattle.ck_chain.proofs.Basics.{not_first, not_second, or_left}
-use Rattle.ck_chain.proofs.Laws.{each_above, last_passes, live_stands}
-use Rattle.ck_chain.proofs.Counts.{one_of, record_count-with_entry}
-use Rattle.ck_chain.proofs.Orderly.{positive_id}
-use Rattle.ck_chain.proofs.Holders.{holder_above, none_holder, some_holder, gone_above}
+use Rattle.ck_model.proofs.CaseLaws.{not_first, not_second, or_left}
+use Rattle.ck_chain.proofs.ReadLaws.{each_above, last_passes, live_stands}
+use Rattle.ck_chain.proofs.CountLaws.{record_count-with_entry}
+use Rattle.ck_chain.specs.Naming.{one_of}
+use Rattle.ck_chain.proofs.OrderlyLaws.{positive_id}
+use Rattle.ck_chain.proofs.HolderLaws.{holder_above, none_holder, some_holder, gone_above}
 use Rattle.ck_chain.proofs.TidyLaws.{tidied_count}
 use Rattle.ck_chain.specs.Changes.{key_of, value_after}
 use Rattle.ck_push.specs.Changed.{push_into, push_of, replaced, tidied_in, changed}

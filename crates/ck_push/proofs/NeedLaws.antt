@@ -11,11 +11,11 @@ use Rattle.ck_model.specs.Table.{Table, IsTable, newer, column}
 use Rattle.ck_model.specs.Chain.{is_covered, is_gone, is_live, keeps_data, newest_live_of}
 use Rattle.ck_model.specs.Rules.{IsNeeded, IsOrderly, IsOwn, IsSound, KeyBelow, first_holder}
 use Rattle.ck_chain.specs.Kept.{pushed}
-use Rattle.ck_chain.specs.Needless.{tidied}
-use Rattle.ck_chain.proofs.Columns.{same_or_other}
-use Rattle.ck_chain.proofs.Laws.{each_above, last_passes, live_stands, newest_at_least}
-use Rattle.ck_chain.proofs.Orderly.{positive_id}
-use Rattle.ck_chain.proofs.Holders.{Says, says_still, some_holder, none_holder, needed_here, needed_tidied, orderly_tidied}
+use Rattle.ck_chain.specs.Needless.{tidied, Says}
+use Rattle.ck_chain.proofs.ColumnLaws.{same_or_other}
+use Rattle.ck_chain.proofs.ReadLaws.{each_above, last_passes, live_stands, newest_at_least}
+use Rattle.ck_chain.proofs.OrderlyLaws.{positive_id}
+use Rattle.ck_chain.proofs.HolderLaws.{says_still, some_holder, none_holder, needed_here, needed_tidied, orderly_tidied}
 use Rattle.ck_chain.proofs.TidyLaws.{column-tidied}
 use Rattle.ck_push.specs.Changed.{push_into, push_of, replaced, tidied_in, changed}
 use Rattle.ck_push.proofs.PushLaws.{MaySet, orderly_replaced}

@@ -9,10 +9,10 @@ use Rattle.ck_model.specs.Chain.{keeps_data, newest_live_of}
 use Rattle.ck_model.specs.Rules.{IsOrderly, block_in}
 use Rattle.ck_chain.specs.Kept.{pushed}
 use Rattle.ck_chain.specs.Naming.{block_of, IsNamed}
-use Rattle.ck_chain.proofs.Basics.{none_some}
-use Rattle.ck_chain.proofs.Columns.{column-with_entry}
-use Rattle.ck_chain.proofs.Moved.{block_pushed}
-use Rattle.ck_chain.proofs.Names.{named_here, named_written, named_else, named_without, named_tidied, named_before_tidied}
+use Rattle.ck_model.proofs.CaseLaws.{none_some}
+use Rattle.ck_chain.proofs.ColumnLaws.{column-with_entry}
+use Rattle.ck_chain.proofs.PushedLaws.{block_pushed}
+use Rattle.ck_chain.proofs.NameLaws.{named_here, named_written, named_else, named_without, named_tidied, named_before_tidied}
 use Rattle.ck_push.specs.Changed.{push_of, replaced, tidied_in, changed}
 use Rattle.ck_push.specs.Released.{unless_kept, released}
 use Rattle.ck_push.proofs.Replacing.{after_push, replaced_in_steps, primary_stays}

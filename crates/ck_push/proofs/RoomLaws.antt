@@ -9,7 +9,7 @@ use Rattle.ck_model.specs.Chain.{keeps_data, newest_live_of}
 use Rattle.ck_chain.specs.Changes.{deletions_first, is_deletion, key_of}
 use Rattle.ck_chain.specs.Kept.{pushed}
 use Rattle.ck_chain.specs.Needless.{is_absent}
-use Rattle.ck_chain.proofs.Basics.{and_left, and_right, not_true}
+use Rattle.ck_model.proofs.CaseLaws.{and_left, and_right, not_true}
 use Rattle.ck_push.specs.Changed.{push_into, push_of}
 use Rattle.ck_push.specs.Growth.{absent_goes, gain, gains, growth, loss, losses, one_if}
 

@@ -7,3 +7,4 @@ pub mod TallyLemmas
 pub mod LinesLemmas
 pub mod ReadingLemmas
 pub mod GeneratorLemmas
+pub mod ScriptLaws

@@ -11,7 +11,7 @@ use Rattle.ck_slots.specs.declared.slot.Slot.{Slot}
 use Rattle.std.specs.FinMap.{is_sorted}
 use Rattle.std.specs.FinMap as map
 use Rattle.ck_model.specs.Key.{entry_cmp, entry_cmp_total, entry_cmp_exact}
-use Rattle.ck_model.proofs.Places.{len_of}
+use Rattle.ck_model.proofs.PlaceLaws.{len_of}
 use Rattle.ck_slots.specs.Arranged.{entry_of, entry_in, arranged, entries_of, times, no_slot}
 use Rattle.ck_slots.proofs.OnceLemmas.{one, one_itself, times_some}
 

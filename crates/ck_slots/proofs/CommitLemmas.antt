@@ -1,7 +1,7 @@
 -- A commit that did nothing, and one that wrote blocks.
 use Rattle.std.proofs.Common.{◌≡◌, ◌<◌, ◌-◌, [], ◌∷◌, length, inl, refl, ap, ◌∙◌, arith}
 use Rattle.ck_disk.specs.Disk.{Image, Meaning, Lawful, LeavesOnly, Outside}
-use Rattle.ck_disk.proofs.Moments.{started, agrees_same}
+use Rattle.ck_disk.proofs.MomentLaws.{started, agrees_same}
 use Rattle.ck_log.specs.Layout.{Layout, base_of}
 use Rattle.ck_log.specs.Images.{Settled, CommitLeaves}
 use Rattle.ck_log.specs.Group.{table_after}

@@ -13,9 +13,9 @@ use Rattle.ck_model.specs.Table.{Table, IsTable, IsSized, record_count}
 use Rattle.ck_record.specs.declared.records.Record.{Record}
 use Rattle.ck_record.specs.declared.records.Record.TheVariants.{Free, Counters as CountersRecord, Fileset as FilesetRecord, Entry}
 use Rattle.ck_record.specs.Record.{IsRecord, spelling}
-use Rattle.ck_record.proofs.LengthLemmas.{long_spelling}
+use Rattle.ck_record.proofs.LengthLaws.{long_spelling}
 use Rattle.ck_area.specs.Area.{Blocks, AreSlots, IsReadAs, slot_at, slot_bytes, records_of, written_as}
-use Rattle.ck_area.proofs.WrittenLemmas.{count_written, length_written, written_within}
+use Rattle.ck_area.proofs.WrittenLaws.{count_written, length_written, written_within}
 use Rattle.ck_slots.specs.Written.{record_in, IsSpelled, AreSpelled}
 use Rattle.ck_slots.proofs.TableLemmas.{some_same, none_some}
 

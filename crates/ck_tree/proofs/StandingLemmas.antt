@@ -12,7 +12,7 @@ use Rattle.ck_model.specs.Table.{Table, IsTable, column, newer}
 use Rattle.ck_model.specs.Chain.{first_entry, present, value_of, value_at}
 use Rattle.ck_model.specs.Values.{Store, payload_of, cell_on, cells_on}
 use Rattle.ck_model.specs.Standing.{values_of}
-use Rattle.ck_model.proofs.ValuesOf.{get-values_of, get-cells_on}
+use Rattle.ck_model.proofs.ValueLaws.{get-values_of, get-cells_on}
 use Rattle.ck_tree.specs.Standing.{small_in, without_bytes, StandsFor}
 
 -- ---- a value is an entry of some fileset

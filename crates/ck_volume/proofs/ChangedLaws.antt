@@ -15,9 +15,9 @@ use Rattle.ck_model.specs.Chain.{newest_live_of}
 use Rattle.ck_model.specs.Rules.{IsOrderly, IsSound}
 use Rattle.ck_chain.specs.Naming.{block_of, IsNamed}
 use Rattle.ck_chain.specs.Changes.{key_of, is_deletion, value_after}
-use Rattle.ck_chain.proofs.Columns.{same_or_other}
-use Rattle.ck_chain.proofs.Moved.{entry_pushed}
-use Rattle.ck_chain.proofs.Orderly.{written_or_before}
+use Rattle.ck_chain.proofs.ColumnLaws.{same_or_other}
+use Rattle.ck_chain.proofs.PushedLaws.{entry_pushed}
+use Rattle.ck_chain.proofs.OrderlyLaws.{written_or_before}
 use Rattle.ck_chain.proofs.TidyLaws.{column-tidied}
 use Rattle.ck_push.specs.Changed.{changed, push_of, replaced, tidied_in}
 use Rattle.ck_push.specs.Growth.{gain, loss, gains, losses}

@@ -19,7 +19,7 @@ use Rattle.ck_model.specs.Table.{Table, IsTable, record_count}
 use Rattle.ck_model.specs.Rules.{IsSound, KeyBelow, SmallBelow, HeldBelow, stamp_in, block_in}
 use Rattle.ck_model.specs.Values.{Store}
 use Rattle.ck_model.specs.Standing.{world_on}
-use Rattle.ck_model.proofs.Counted.{records_are}
+use Rattle.ck_model.proofs.CountLaws.{records_are}
 use Rattle.ck_push.specs.Growth.{gains, losses, write_count}
 use Rattle.ck_volume.specs.Plain.{IsOurs}
 use Rattle.ck_volume.specs.Room.{Grows, has_room, lack_of_room, answered_with}

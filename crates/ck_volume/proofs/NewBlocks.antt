@@ -25,9 +25,9 @@ use Rattle.ck_model.specs.Chain.{present}
 use Rattle.ck_model.specs.Rules.{IsSound, stamp_in}
 use Rattle.ck_model.specs.Values.{Store, cell_on, cells_on}
 use Rattle.ck_model.specs.Standing.{values_of}
-use Rattle.ck_model.proofs.Sizes.{len_same_keys, contains_key-retain_keys}
+use Rattle.ck_model.proofs.SizeLaws.{len_same_keys, contains_key-retain_keys}
 use Rattle.ck_chain.specs.Changes.{key_of, is_write, value_after}
-use Rattle.ck_chain.proofs.Columns.{same_or_other}
+use Rattle.ck_chain.proofs.ColumnLaws.{same_or_other}
 use Rattle.ck_push.specs.Growth.{one_if, write_count}
 use Rattle.ck_volume.specs.Changing.{set_cell, with_change, with_changes, MayChange, AllApart, MayChangeAll}
 use Rattle.ck_volume.proofs.WorldAfter.{get-set_cell, get-primary}

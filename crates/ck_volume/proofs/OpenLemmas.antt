@@ -15,7 +15,7 @@ use Rattle.ck_disk.specs.Disk.{Image, Meaning, Lawful, IsClean, IsSynced, Leaves
 use Rattle.ck_log.specs.Layout.{Layout, base_of, size_of}
 use Rattle.ck_log.specs.Header.{Opens as OpensAt}
 use Rattle.ck_log.specs.Images.{recovered_region, Settled}
-use Rattle.ck_log.proofs.Recovery.{recovered_region-agrees, table_on-agrees, area_of-settled, settled-keeps}
+use Rattle.ck_log.proofs.RecoveryLaws.{recovered_region-agrees, table_on-agrees, area_of-settled, settled-keeps}
 use Rattle.ck_model.specs.World.{keeps_files}
 use Rattle.ck_model.specs.Table.{Table}
 use Rattle.ck_model.specs.Rules.{IsSound}

@@ -21,7 +21,7 @@ use Rattle.ck_model.specs.Cells.{Content}
 use Rattle.ck_model.specs.declared.cell.Cell.{Cell}
 use Rattle.std.specs.Option.{option_map}
 use Rattle.ck_model.specs.Values.{cell_on}
-use Rattle.ck_model.proofs.ValuesOf.{get-cells_on}
+use Rattle.ck_model.proofs.ValueLaws.{get-cells_on}
 
 -- a cell's content over these data blocks
 abbrev pub content_on : Store → Option Held → Content

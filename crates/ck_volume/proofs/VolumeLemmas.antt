@@ -6,8 +6,8 @@ use Rattle.std.specs.Ordering.{nat_cmp}
 use Rattle.ck_disk.specs.Disk.{Image, Meaning, Lawful, Step, LeavesOnly, Agrees, Outside, IsSynced}
 use Rattle.ck_log.specs.Layout.{Layout, base_of, size_of}
 use Rattle.ck_log.specs.Images.{table_on, names_second, Settled, CommitLeaves}
-use Rattle.ck_log.proofs.Areas.{area_low, area_high}
-use Rattle.ck_log.proofs.Recovery.{table_on-set, settled-keeps}
+use Rattle.ck_log.proofs.AreaLaws.{area_low, area_high}
+use Rattle.ck_log.proofs.RecoveryLaws.{table_on-set, settled-keeps}
 use Rattle.ck_alloc.specs.Blocks.{Allocation, IsPartition, free_count}
 use Rattle.ck_model.specs.World.{World, unmounted}
 use Rattle.ck_model.specs.Table.{Table}

@@ -19,9 +19,9 @@ use Rattle.ck_model.specs.Chain.{present}
 use Rattle.ck_model.specs.Rules.{IsSound, IsOwn}
 use Rattle.ck_model.specs.Values.{Store, cell_on, cells_on}
 use Rattle.ck_model.specs.Standing.{values_of, world_on}
-use Rattle.ck_model.proofs.ValuesOf.{get-values_of, get-cells_on}
+use Rattle.ck_model.proofs.ValueLaws.{get-values_of, get-cells_on}
 use Rattle.ck_chain.specs.Changes.{key_of, value_after}
-use Rattle.ck_chain.proofs.Columns.{same_or_other}
+use Rattle.ck_chain.proofs.ColumnLaws.{same_or_other}
 use Rattle.ck_push.specs.Changed.{changed}
 use Rattle.ck_push.proofs.SeenLaws.{others_stay, primary_changed, changed_reads}
 use Rattle.ck_volume.specs.Plain.{IsPlain}

@@ -10,7 +10,7 @@ use Rattle.ck_volume.specs.Device.{store_on}
 use Rattle.ck_volume.proofs.Stands.{stands, value_below}
 use Rattle.ck_model.specs.declared.key.Key.TheVariants.{Block}
 use Rattle.ck_model.specs.Standing.{values_of}
-use Rattle.ck_model.proofs.ValuesOf.{get-values_of}
+use Rattle.ck_model.proofs.ValueLaws.{get-values_of}
 use Rattle.ck_volume.proofs.ReadingLemmas.{reads_on, range_more}
 use Rattle.ck_volume.proofs.reading.read_range.Goals as goal
 

@@ -1,4 +1,4 @@
-use Rattle.ck_disk.proofs.Moments.{torn_same, set_same}
+use Rattle.ck_disk.proofs.MomentLaws.{torn_same, set_same}
 use Rattle.ck_disk.proofs.fuse_disk.FuseDiskDisk.write.Goals as goal
 
 pub returns-then-self-eq0-clause-others : goal.returns-then-self-eq0-clause-others

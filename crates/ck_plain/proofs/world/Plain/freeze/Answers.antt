@@ -7,7 +7,7 @@ use Rattle.ck_model.specs.Cells.{Cells}
 use Rattle.ck_model.specs.World.{World, Checkpoint, shown_by}
 use Rattle.ck_model.specs.Freezing.{kind_of, frozen_world}
 use Rattle.ck_model.specs.Step.{Outcome, with_room}
-use Rattle.ck_model.proofs.Differences.{len-shown_by}
+use Rattle.ck_model.proofs.DifferenceLaws.{len-shown_by}
 use Rattle.ck_plain.specs.Plain.{checkpoint_of, world_of}
 use Rattle.ck_plain.specs.Room.{Ask, has_room, picks_for}
 use Rattle.ck_plain.proofs.Lists.{map_append}

@@ -7,7 +7,7 @@ use Rattle.ck_model.specs.Key.{key_cmp_total, key_cmp_exact}
 use Rattle.ck_model.specs.World.{World, Checkpoint}
 use Rattle.ck_model.specs.Space.{is_new_block}
 use Rattle.ck_model.specs.Step.{Outcome, with_room}
-use Rattle.ck_model.proofs.Sizes.{len-retain_keys-le}
+use Rattle.ck_model.proofs.SizeLaws.{len-retain_keys-le}
 use Rattle.ck_plain.specs.Plain.{checkpoint_of, world_of}
 use Rattle.ck_plain.specs.Changed.{with_next}
 use Rattle.ck_plain.specs.Outcome.{with_files}

@@ -16,15 +16,12 @@ use Rattle.ck_model.specs.Rules.{IsSound}
 use Rattle.ck_record.specs.declared.records.Record.{Record}
 use Rattle.ck_record.specs.declared.records.Record.TheVariants.{Free, Counters as CountersRecord, Fileset as FilesetRecord, Entry}
 use Rattle.ck_record.specs.Record.{IsRecord}
-use Rattle.ck_area.specs.Area.{Blocks, Area, AreSlots, IsReadAs, slot_at, slot_bytes, entries_in, filesets_in, counters_by, counters_in, no_counters, table_of}
+use Rattle.ck_area.specs.Area.{Blocks, Area, AreSlots, IsReadAs, slot_at, slot_bytes, entries_in, filesets_in, counters_by, counters_in, no_counters, table_of, AreRecords}
 use Rattle.ck_area.specs.Damage.{damage}
 use Rattle.ck_area.proofs.Fronts.{Among}
 use Rattle.ck_area.proofs.SlotsLemmas.{all_fine, entries_fine, filesets_fine, count_fine, slots_some}
-use Rattle.ck_area.proofs.UndamagedLemmas.{len-from_entries-le, entry_among, fileset_among, sound}
-
--- each slot that has a record has one within the limits
-abbrev pub AreRecords : Area → Type 0
-AreRecords = AllByRecursion (λ x. IfSome x IsRecord)
+use Rattle.ck_area.proofs.UndamagedLemmas.{entry_among, fileset_among, sound}
+use Rattle.ck_model.proofs.SizeLaws.{len-from_entries-le}
 
 all_at : {X : Type 0} (P : X → Type 0) (d : X) (xs : List X) → ((i : ℕ) → i < length xs → P (get_or xs i d)) → AllByRecursion P xs
 all_at P d [] at = tt

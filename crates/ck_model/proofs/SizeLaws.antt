@@ -85,6 +85,11 @@ module _ {K X : Type 0} {R : K → K → Ordering} (total : IsTotalOrder R) (exa
   len-remove-le m k = subst (λ n. n ≤ map.len m) (sym (map.len-remove total m k)) (
       elim (map.contains_key m k) as (λ b. cond b (map.len m - 1) (map.len m) ≤ map.len m) [ true ↦ omega arith | false ↦ omega arith ])
 
+  -- a map has no more entries than the list that it is made from
+  pub len-from_entries-le : (es : List (K × X)) → map.len (map.from_entries {R = R} es) ≤ length es
+  len-from_entries-le [] = let none = map.len-empty R X in omega (arith, none)
+  len-from_entries-le (e ∷ es) = omega (arith, len-insert-le total exact (map.from_entries es) e.0 e.1, len-from_entries-le es)
+
 -- two maps with the same keys have the same size
 pub len_same_keys : {K X Y : Type 0} {R : K → K → Ordering} (total : IsTotalOrder R) (exact : IsAntisymmetric R) (m : map.FinMap R X) (n : map.FinMap R Y)
     → ((q : K) → map.contains_key m q ≡ map.contains_key n q) → map.len m ≡ map.len n

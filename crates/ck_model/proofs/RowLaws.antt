@@ -11,21 +11,8 @@ use Rattle.ck_model.specs.declared.key.Key.{Key}
 use Rattle.ck_model.specs.declared.held.Held.{Held}
 use Rattle.ck_model.specs.Key.{key_cmp, entry_cmp}
 use Rattle.ck_model.specs.Table.{Table, column}
-
--- the entries of one fileset, by key
-abbrev pub row : {X : Type 0} → ℕ → List ((ℕ × Key) × X) → List (Key × X)
-row fs [] = []
-row fs (e ∷ es) = if nat_eq e.0.0 fs then (e.0.1, e.1) ∷ row fs es else row fs es
-
-pub head_of : (a b : Bool) → T (a && b) → T a × T b
-head_of true true h = (tt, tt)
-head_of true false h = absurd h
-head_of false b h = absurd h
-
-pub both_of : (a b : Bool) → T a → T b → T (a && b)
-both_of true true g h = tt
-both_of true false g h = h
-both_of false b g h = g
+use Rattle.ck_model.specs.Rows.{row, row_of, total, times}
+use Rattle.ck_model.proofs.CaseLaws.{head_of, both_of}
 
 -- in one fileset the order of entries is that of their keys
 same_fileset : (f g : ℕ) (q k : Key) → nat_eq g f ≡ true → entry_cmp (f, q) (g, k) ≡ key_cmp q k
@@ -70,27 +57,11 @@ is_sorted-row fs (e ∷ es) h =
       | false ↦ λ h. rest
     ] refl
 
--- the entries of a fileset of a table
-abbrev pub row_of : Table → ℕ → List (Key × Held)
-row_of t fs = row fs (map.entries t.entries)
-
 pub find-row_of : (t : Table) (fs : ℕ) (q : Key) → find key_cmp q (row_of t fs) ≡ column t q fs
 find-row_of t fs q = find-row fs q (map.entries t.entries) ∙ sym (map.get-entries t.entries (fs, q))
 
 pub is_sorted-row_of : (t : Table) (fs : ℕ) → T (is_sorted key_cmp (row_of t fs))
 is_sorted-row_of t fs = is_sorted-row fs (map.entries t.entries) (entries_sorted t.entries)
-
--- ---- what is counted
-
--- a number for each of these, added up
-abbrev pub total : {X : Type 0} → (X → ℕ) → List X → ℕ
-total f [] = 0
-total f (x ∷ xs) = f x + total f xs
-
--- how often a number stands among these
-abbrev pub times : ℕ → List ℕ → ℕ
-times g [] = 0
-times g (id ∷ ids) = (if nat_eq g id then 1 else 0) + times g ids
 
 total-zero : (ids : List ℕ) → total (λ fs. 0) ids ≡ 0
 total-zero [] = refl

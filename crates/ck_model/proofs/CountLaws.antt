@@ -29,16 +29,15 @@ use Rattle.ck_model.specs.Chain.{first_entry, present, value_of, value_at, is_li
 use Rattle.ck_model.specs.Rules.{IsSound, IsOwn, first_holder, stamp_in}
 use Rattle.ck_model.specs.Values.{Store, cell_on, cells_on}
 use Rattle.ck_model.specs.Standing.{values_of, checkpoint_on, live_filesets, checkpoints_on, world_on, blocks_in, blocks_of, extent_count}
-use Rattle.ck_model.proofs.CellsLemmas.{get-marked, differs-mark_of, differs-itself, contains_key-differences}
-use Rattle.ck_model.proofs.Differences.{differs_from_mark}
-use Rattle.ck_model.proofs.Sizes.{len_same_keys, len-retain_keys, contains_key-retain_keys}
-use Rattle.ck_model.proofs.ValuesOf.{get-values_of, get-cells_on}
-use Rattle.ck_model.proofs.Rows.{head_of, row_of, find-row_of, is_sorted-row_of, total, times, total-rows}
-use Rattle.ck_model.proofs.Filesets.{Follow, follow_newer, all_found, times-none, times-once}
-
--- no checkpoint is gone
-abbrev pub NoneGone : Table → Type 0
-NoneGone t = (id : ℕ) (fileset : Fileset) → map.get t.filesets id ≡ Some fileset → fileset.gone ≡ false
+use Rattle.ck_model.proofs.CellLaws.{get-marked, differs-mark_of, differs-itself, contains_key-differences}
+use Rattle.ck_model.proofs.DifferenceLaws.{differs_from_mark}
+use Rattle.ck_model.proofs.SizeLaws.{len_same_keys, len-retain_keys, contains_key-retain_keys}
+use Rattle.ck_model.proofs.ValueLaws.{get-values_of, get-cells_on}
+use Rattle.ck_model.proofs.RowLaws.{find-row_of, is_sorted-row_of, total-rows}
+use Rattle.ck_model.proofs.CaseLaws.{head_of}
+use Rattle.ck_model.specs.Rows.{row_of, total, times}
+use Rattle.ck_model.proofs.FilesetLaws.{follow_newer, all_found, times-none, times-once}
+use Rattle.ck_model.specs.Placed.{Follow, NoneGone, ArePlaced, AllStripped}
 
 -- ---- one fileset's entries
 
@@ -205,16 +204,6 @@ shown_right : (kind : Kind) (b : Cells) (q : Key) (o : Option Cell) → differs 
 shown_right Keeping b q o = refl
 shown_right Nodata b q o = ap (differs o) (get-marked b q) ∙ differs_from_mark q o (map.get b q)
 
--- a checkpoint, and those behind it, as they stand in a table
-pub record IsPlaced (t : Table) (e : ℕ × Fileset) (es : List (ℕ × Fileset)) : Type 0 where
-  pub newer : newer t e.0 ≡ list_map (λ x. x.0) es
-  pub some : 1 ≤ e.0
-  pub stands : map.get t.filesets e.0 ≡ Some e.1
-
-abbrev pub ArePlaced : Table → List (ℕ × Fileset) → Type 0
-ArePlaced t [] = ⊤
-ArePlaced t (e ∷ es) = IsPlaced t e es × ArePlaced t es
-
 module _ (t : Table) (lawful : IsTable t) where
   placed : (es : List (ℕ × Fileset)) → Follow (newer t) es → AllByRecursion (λ e. map.get t.filesets e.0 ≡ Some e.1) es → ArePlaced t es
   placed [] follow stand = tt
@@ -367,12 +356,6 @@ records_are store mounts t lawful sound none =
     let entries : map.len t.entries ≡ total (λ e. 1) (map.entries t.entries) = map.len-entries t.entries ∙ sym (total_ones (map.entries t.entries)) in
     let count : length (checkpoints_of store t filesets) ≡ map.len t.filesets = length_mapped (λ (e : ℕ × Fileset). checkpoint_on store t e.0 e.1) filesets ∙ sym (map.len-entries t.filesets) in
     subst (λ cs. record_count t ≡ map.len (cells_on store (values_of t 0)) + difference_count (cells_on store (values_of t 0)) cs + length cs) (sym live) (omega (arith, primary, rest, rows, entries, count))
-
--- ---- data blocks
-
--- only where data is kept do checkpoints name data blocks
-abbrev pub AllStripped : Table → Type 0
-AllStripped t = (fs : ℕ) (key : Key) (stamp block : ℕ) → column t key fs ≡ Some (Extent stamp block) → (fs ≡ 0) ⊎ (keeps_data t fs ≡ true)
 
 abbrev is_extent : Held → Bool
 is_extent Absent = false

@@ -11,13 +11,10 @@ use Rattle.ck_model.specs.declared.held.Held.{Held}
 use Rattle.ck_model.specs.declared.held.Held.TheVariants.{Absent, Plain, Extent, Mark}
 use Rattle.ck_model.specs.Table.{Table, newer, column, with_entry}
 use Rattle.ck_model.specs.Chain.{first_entry, present, keeps_data, as_mark, seen, is_live, last_of, newest_live_of}
-use Rattle.ck_chain.specs.Kept.{pushed}
-use Rattle.ck_chain.proofs.Newer.{newer_split, in_between}
-use Rattle.ck_chain.proofs.Columns.{column-with_entry, column-with_entry_other, same_or_other}
-
--- what a reader makes of the first entry, where data is kept and where it isn't
-abbrev pub read_as : Bool → Option Held → Option Held
-read_as keeps held = if keeps then present held else option_map as_mark (present held)
+use Rattle.ck_chain.specs.Kept.{pushed, read_as}
+use Rattle.ck_chain.proofs.NewerLaws.{newer_split}
+use Rattle.ck_chain.specs.Needless.{in_between}
+use Rattle.ck_chain.proofs.ColumnLaws.{column-with_entry, column-with_entry_other, same_or_other}
 
 -- filesets before the changed one answer alike, if the rest does
 before_rest : (c d : ℕ → Option Held) (b : Bool) (fs f : ℕ) (ids rest : List ℕ) → ((x : ℕ) → fs < x → x < f → d x ≡ c x)

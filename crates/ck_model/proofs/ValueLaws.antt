@@ -13,12 +13,8 @@ use Rattle.ck_model.specs.Key.{key_cmp, entry_cmp, key_cmp_total, entry_cmp_exac
 use Rattle.ck_model.specs.Table.{Table, column, newer}
 use Rattle.ck_model.specs.Chain.{first_entry, present, value_of, value_at}
 use Rattle.ck_model.specs.Values.{Store, Values, cell_on, cells_on}
-use Rattle.ck_model.specs.Standing.{keys_of, with_value, valued, values_of}
-use Rattle.ck_model.proofs.CellsLemmas.{tied-is, equal, find-values}
-
--- the key is one of these
-abbrev pub is_among : Key → List Key → Bool
-is_among q keys = list_any (λ key. eq_by_cmp key_cmp q key) keys
+use Rattle.ck_model.specs.Standing.{keys_of, with_value, valued, values_of, is_among}
+use Rattle.ck_model.proofs.CellLaws.{tied-is, equal, find-values}
 
 -- entries whose filesets and keys tie are one
 pub tied_entry : (x y : ℕ × Key) → eq_by_cmp entry_cmp x y ≡ true → x ≡ y

@@ -1,5 +1,5 @@
 -- Small facts on options and tests.
-use Rattle.std.proofs.Common.{◌≡◌, Bool, true, false, ◌&&◌, ◌||◌, not, Option, Some, None, IsSome, refl}
+use Rattle.std.proofs.Common.{◌≡◌, Bool, true, false, ◌&&◌, ◌||◌, not, Option, Some, None, IsSome, refl, T}
 use mathlib.Core.Bool.{false≢true}
 
 pub some_same : {X : Type 0} (x y : X) → ◌≡◌ {A = Option X} (Some x) (Some y) → x ≡ y
@@ -40,3 +40,17 @@ not_true false h = refl
 pub not_false : (b : Bool) → not b ≡ false → b ≡ true
 not_false true h = refl
 not_false false h = cc
+
+pub head_of : (a b : Bool) → T (a && b) → T a × T b
+head_of true true h = (tt, tt)
+head_of true false h = absurd h
+head_of false b h = absurd h
+
+pub both_of : (a b : Bool) → T a → T b → T (a && b)
+both_of true true g h = tt
+both_of true false g h = h
+both_of false b g h = g
+
+pub true_or_false : (b : Bool) → (b ≡ true → ⊥) → b ≡ false
+true_or_false true h = absurd (h refl)
+true_or_false false h = refl

@@ -8,30 +8,15 @@ use mathlib.Core.Bool.{false≢true}
 use Rattle.std.proofs.lemmas.Bool.{cases_lt}
 use Rattle.std.proofs.lemmas.Bool.Decides.{nat_tests}
 use Rattle.ck_model.specs.Table.{Table, newer}
-
--- the ids of these entries above fs
-abbrev pub above : {X : Type 0} → ℕ → List (ℕ × X) → List ℕ
-above fs es = filter (λ id. nat_lt fs id) (map (λ e. e.0) es)
-
-below_head : (x y : ℕ) (b : Bool) → T (is_lt (nat_cmp x y) && b) → (x < y) × T b
-below_head x y b h = grind (arith, nat_tests)
-
-all_above : {X : Type 0} (x fs : ℕ) (es : List (ℕ × X)) → T (below_all nat_cmp x es) → fs ≤ x → above fs es ≡ map (λ e. e.0) es
-all_above x fs [] h le = refl
-all_above x fs (e ∷ es) h le =
-    let head = below_head x e.0 (below_all nat_cmp x es) h in
-    let rest = all_above x fs es head.1 le in
-    let lt : fs < e.0 = omega (arith, head.0) in
-    grind (arith, nat_tests, rest)
+use Rattle.ck_model.specs.Placed.{above}
+use Rattle.ck_model.proofs.FilesetLaws.{all_above}
+use Rattle.ck_chain.specs.Needless.{in_between}
 
 sorted_tail : {X : Type 0} (e : ℕ × X) (es : List (ℕ × X)) → T (is_sorted nat_cmp (e ∷ es)) → T (is_sorted nat_cmp es)
 sorted_tail e es s = grind (arith, nat_tests)
 
 sorted_head : {X : Type 0} (e : ℕ × X) (es : List (ℕ × X)) → T (is_sorted nat_cmp (e ∷ es)) → T (below_all nat_cmp e.0 es)
 sorted_head e es s = grind (arith, nat_tests)
-
-abbrev pub in_between : ℕ → ℕ → ℕ → Bool
-in_between low high id = nat_lt low id && nat_lt id high
 
 -- the ids of these entries above low and below high
 abbrev between : {X : Type 0} → ℕ → ℕ → List (ℕ × X) → List ℕ

@@ -7,19 +7,11 @@ use Rattle.ck_model.specs.declared.cell.Cell.{Cell}
 use Rattle.ck_model.specs.declared.checkpoint.Kind.{Kind}
 use Rattle.ck_model.specs.declared.checkpoint.Kind.TheVariants.{Keeping, Nodata}
 use Rattle.ck_model.specs.Key.{key_cmp, key_cmp_total, key_cmp_exact}
-use Rattle.ck_model.specs.Cells.{Cells, differs, differences, mark_of}
+use Rattle.ck_model.specs.Cells.{Cells, differs, differences, mark_of, is_new_in, is_gone_in}
 use Rattle.ck_model.specs.World.{shown_by}
-use Rattle.ck_model.proofs.CellsLemmas.{get-marked, stamp-mark_of, differs-itself, differs-mark_of, contains_key-differences}
-use Rattle.ck_model.proofs.Marks.{len-marked}
-use Rattle.ck_model.proofs.Sizes.{len-retain_keys-le, len_parts, len_same_keys, contains_key-retain_keys}
-
--- the keys that the second map has in another version or anew
-abbrev pub is_new_in : Cells → Cells → Key → Bool
-is_new_in a b key = differs (map.get a key) (map.get b key)
-
--- the keys that the second map lacks
-abbrev pub is_gone_in : Cells → Key → Bool
-is_gone_in b key = not (map.contains_key b key)
+use Rattle.ck_model.proofs.CellLaws.{get-marked, stamp-mark_of, differs-itself, differs-mark_of, contains_key-differences}
+use Rattle.ck_model.proofs.MarkLaws.{len-marked}
+use Rattle.ck_model.proofs.SizeLaws.{len-retain_keys-le, len_parts, len_same_keys, contains_key-retain_keys}
 
 there : (o p : Option Cell) → (is_some p && differs o p) ≡ (differs o p && is_some p)
 there None None = refl

@@ -12,16 +12,12 @@ use Rattle.ck_model.specs.declared.held.Held.TheVariants.{Absent, Plain, Extent,
 use Rattle.ck_model.specs.Table.{Table, newer, column, with_entry, written}
 use Rattle.ck_model.specs.Chain.{first_entry, present, is_live, is_gone, newest_live_of}
 use Rattle.ck_model.specs.Rules.{first_holder, IsNeeded, IsOrderly}
-use Rattle.ck_chain.specs.Needless.{is_absent, says_nothing, is_needless, tidied}
-use Rattle.ck_chain.proofs.Basics.{and_left, and_right, not_false}
-use Rattle.ck_chain.proofs.Newer.{newer_split, in_between}
-use Rattle.ck_chain.proofs.Columns.{column-with_entry, column-with_entry_other, same_or_other}
-use Rattle.ck_chain.proofs.Laws.{each_above, live_stands, newest_at_least}
-use Rattle.ck_chain.proofs.Orderly.{orderly_without}
-
--- the next newer entry says something, or stands in a checkpoint that is gone
-abbrev pub Says : Table → Option (ℕ × Held) → Type 0
-Says t holder = IsSomeAnd holder (λ h. (is_gone t h.0 ≡ true) ⊎ (h.1 ≢ Absent))
+use Rattle.ck_chain.specs.Needless.{is_absent, says_nothing, is_needless, tidied, Says, FirstAbove, in_between}
+use Rattle.ck_model.proofs.CaseLaws.{and_left, and_right, not_false}
+use Rattle.ck_chain.proofs.NewerLaws.{newer_split}
+use Rattle.ck_chain.proofs.ColumnLaws.{column-with_entry, column-with_entry_other, same_or_other}
+use Rattle.ck_chain.proofs.ReadLaws.{each_above, live_stands, newest_at_least}
+use Rattle.ck_chain.proofs.OrderlyLaws.{orderly_without}
 
 says_at : (t : Table) (g : ℕ) (held : Held) → (is_absent (Some held) && not (is_gone t g)) ≡ false → (is_gone t g ≡ true) ⊎ (held ≢ Absent)
 says_at t g Absent h = inl (not_false (is_gone t g) h)
@@ -171,14 +167,6 @@ some_holder c d (x ∷ ids) h same =
       | None ↦ λ h. some_holder c d ids h same.1
       | Some held ↦ λ h. refl
     ] h
-
--- the first of the filesets above a number that has an entry
-pub record FirstAbove (c : ℕ → Option Held) (fs : ℕ) (holder : Option (ℕ × Held)) : Type 0 where
-  pub at : ℕ
-  pub held : Held
-  pub more : fs < at
-  pub has : c at ≡ Some held
-  pub is : holder ≡ Some (at, held)
 
 pub holder_above : (c : ℕ → Option Held) (fs : ℕ) (ids : List ℕ) → list_any (λ id. is_some (c id)) (filter (λ id. nat_lt fs id) ids) ≡ true → FirstAbove c fs (first_holder c (filter (λ id. nat_lt fs id) ids))
 holder_above c fs [] h = absurd (false≢true h)

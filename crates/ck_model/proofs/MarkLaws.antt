@@ -7,15 +7,11 @@ use Rattle.std.proofs.lemmas.List.{length-map}
 use Rattle.ck_model.specs.declared.key.Key.{Key}
 use Rattle.ck_model.specs.declared.cell.Cell.{Cell}
 use Rattle.ck_model.specs.Key.{key_cmp, key_cmp_total, key_cmp_exact}
-use Rattle.ck_model.specs.Cells.{Cells, mark_of, marked}
+use Rattle.ck_model.specs.Cells.{Cells, mark_of, marked, mark_entry}
 use Rattle.ck_model.specs.Ordered.{Edits}
-use Rattle.ck_model.proofs.CellsLemmas.{find-values, is_sorted-values, get-marked}
-use Rattle.ck_model.proofs.Places.{len_of}
-use Rattle.ck_model.proofs.Sizes.{len_same_keys}
-
--- an entry with its block as a mark
-abbrev pub mark_entry : Key × Cell → Key × Cell
-mark_entry e = (e.0, mark_of e.0 e.1)
+use Rattle.ck_model.proofs.CellLaws.{find-values, is_sorted-values, get-marked}
+use Rattle.ck_model.proofs.PlaceLaws.{len_of}
+use Rattle.ck_model.proofs.SizeLaws.{len_same_keys}
 
 is_some-map : {X Y : Type 0} (f : X → Y) (o : Option X) → is_some (option_map f o) ≡ is_some o
 is_some-map f None = refl

@@ -8,8 +8,9 @@ use Rattle.ck_model.specs.declared.held.Held.TheVariants.{Mark}
 use Rattle.ck_model.specs.Table.{Table, IsTable, column, with_entry}
 use Rattle.ck_model.specs.Chain.{keeps_data}
 use Rattle.ck_model.specs.Rules.{IsOrderly, IsOwn, KeyBelow, HeldBelow, stamp_in, block_in}
-use Rattle.ck_chain.proofs.Basics.{some_is, some_same}
-use Rattle.ck_chain.proofs.Columns.{column-with_entry, column-with_entry_other, same_or_other}
+use Rattle.ck_model.proofs.CaseLaws.{some_is, some_same}
+use Rattle.ck_chain.proofs.ColumnLaws.{column-with_entry, column-with_entry_other, same_or_other}
+use Rattle.ck_chain.specs.Fits.{Fits}
 
 -- the ids of filesets are at least 1
 pub positive_id : (t : Table) (id : ℕ) → IsTable t → IsSome (map.get t.filesets id) → 1 ≤ id
@@ -52,19 +53,6 @@ orderly_without t f k is = record {
   marks = λ fs key stamp at. is.marks fs key stamp (still_stood t f k fs key (Mark stamp) at);
   versions = λ fs gs key held again stamp at too. is.versions fs gs key held again stamp (still_stood t f k fs key held at) (still_stood t f k gs key again too);
 }
-
--- an entry that the rules let stand at this fileset and key, beside the others
-pub record Fits (t : Table) (f : ℕ) (k : Key) (held : Held) : Type 0 where
-  pub home : (f ≡ 0) ⊎ IsSome (map.get t.filesets f)
-  pub stamp : IfSome (stamp_in held) (λ stamp. stamp < t.counters.stamp)
-  pub number : KeyBelow t.counters.number k × HeldBelow t.counters.number held
-  pub block : IfSome (block_in held) (λ block. block < t.blocks)
-  pub primary : f ≡ 0 → IsOwn held
-  pub mark : (stamp : ℕ) → held ≡ Mark stamp → keeps_data t f ≡ false
-  -- no other entry names its block
-  pub unshared : (gs : ℕ) (other : Key) (again : Held) (block : ℕ) → column t other gs ≡ Some again → block_in again ≡ Some block → block_in held ≡ Some block → (gs ≡ f) × (other ≡ k)
-  -- no other entry of the key has its stamp
-  pub version : (gs : ℕ) (again : Held) (stamp : ℕ) → column t k gs ≡ Some again → stamp_in again ≡ Some stamp → stamp_in held ≡ Some stamp → gs ≡ f
 
 -- what holds of the written entry and of all before holds of each afterwards
 each_entry : (t : Table) (f : ℕ) (k : Key) (new : Held) (P : ℕ → Key → Held → Type 0) → P f k new → ((g : ℕ) (q : Key) (held : Held) → column t q g ≡ Some held → P g q held)

@@ -6,16 +6,11 @@ use mathlib.Core.Bool.{false≢true}
 use Rattle.ck_model.specs.declared.key.Key.{Key}
 use Rattle.ck_model.specs.Key.{key_cmp}
 use Rattle.ck_model.specs.Table.{Table}
-use Rattle.ck_model.specs.Standing.{keys_of}
-use Rattle.ck_model.proofs.CellsLemmas.{tied-is}
-use Rattle.ck_model.proofs.ValuesOf.{is_among, not_among}
-use Rattle.ck_chain.specs.Following.{IsHeld}
-use Rattle.ck_chain.proofs.KeyOrder.{is_behind, behind-itself, behind-trans}
-
--- the key itself and those of the table that are behind it
-abbrev pub keys_left : Table → Option Key → ℕ
-keys_left t None = 0
-keys_left t (Some key) = suc (length (filter (is_behind key) (keys_of t)))
+use Rattle.ck_model.specs.Standing.{keys_of, is_among}
+use Rattle.ck_model.proofs.CellLaws.{tied-is}
+use Rattle.ck_model.proofs.ValueLaws.{not_among}
+use Rattle.ck_chain.specs.Following.{IsHeld, is_behind, keys_left}
+use Rattle.ck_chain.proofs.KeyOrderLaws.{behind-itself, behind-trans}
 
 fewer : (a b : Key) → is_behind a b ≡ true → (ks : List Key) → length (filter (is_behind b) ks) ≤ length (filter (is_behind a) ks)
 fewer a b h [] = omega arith

@@ -13,11 +13,9 @@ use Rattle.std.proofs.lemmas.Bool.Decides.{nat_tests}
 use Rattle.std.proofs.lemmas.Cmp.{tied_itself, nat_cmp_total}
 use mathlib.Core.Bool.{false≢true}
 use Rattle.ck_model.specs.Table.{Table, newer}
-use Rattle.ck_model.proofs.Rows.{head_of, times}
-
--- the ids of these entries above a number
-abbrev pub above : {X : Type 0} → ℕ → List (ℕ × X) → List ℕ
-above fs es = filter (λ id. nat_lt fs id) (list_map (λ e. e.0) es)
+use Rattle.ck_model.proofs.CaseLaws.{head_of}
+use Rattle.ck_model.specs.Rows.{times}
+use Rattle.ck_model.specs.Placed.{above, Follow}
 
 below_head : (x y : ℕ) (b : Bool) → T (is_lt (nat_cmp x y) && b) → (x < y) × T b
 below_head x y b h = grind (arith, nat_tests)
@@ -29,11 +27,6 @@ all_above x fs (e ∷ es) h le =
     let rest = all_above x fs es head.1 le in
     let lt : fs < e.0 = omega (arith, head.0) in
     grind (arith, nat_tests, rest)
-
--- of each of these, what is newer are those behind it
-abbrev pub Follow : {X : Type 0} → (ℕ → List ℕ) → List (ℕ × X) → Type 0
-Follow newer [] = ⊤
-Follow newer (e ∷ es) = (newer e.0 ≡ list_map (λ x. x.0) es) × Follow newer es
 
 -- an entry before them is newer than none of them
 follow_behind : {X : Type 0} (x : ℕ × X) (all es : List (ℕ × X)) → T (below_all nat_cmp x.0 es) → Follow (λ id. above id all) es → Follow (λ id. above id (x ∷ all)) es

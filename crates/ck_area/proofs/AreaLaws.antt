@@ -2,7 +2,7 @@
 use Rattle.std.proofs.Common.{◌≡◌, ℕ, ◌<◌, List, length, Option, Some, None, refl, sym, ap, subst, ◌∙◌}
 use Rattle.std.proofs.lemmas.List.{same_lists, get_or_default}
 use Rattle.ck_record.specs.declared.records.Record.{Record}
-use Rattle.ck_record.proofs.OneRecord.{same_records}
+use Rattle.ck_record.proofs.RecordLaws.{same_records}
 use Rattle.ck_area.specs.Area.{Blocks, Area, IsReadAs, AreSlots, slot_at, slot_bytes}
 
 -- bytes are read as one thing

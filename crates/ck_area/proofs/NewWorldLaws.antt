@@ -16,9 +16,9 @@ use Rattle.ck_model.specs.Table.{column}
 use Rattle.ck_model.specs.Chain.{present}
 use Rattle.ck_model.specs.Values.{Store, cell_on, cells_on}
 use Rattle.ck_model.specs.Standing.{values_of, checkpoint_on, checkpoint_limit, world_on}
-use Rattle.ck_model.proofs.ValuesOf.{get-values_of, get-cells_on}
+use Rattle.ck_model.proofs.ValueLaws.{get-values_of, get-cells_on}
 use Rattle.ck_area.specs.Area.{new_table}
-use Rattle.ck_area.proofs.NewTable.{new_filesets}
+use Rattle.ck_area.proofs.NewTableLaws.{new_filesets}
 
 root_or_none : (store : Store) (b : Bool) → option_map (cell_on store) (present (cond b (Some (Plain 0 Dir)) None)) ≡ cond b (Some (cell_of 0 payload.Dir)) None
 root_or_none store true = refl

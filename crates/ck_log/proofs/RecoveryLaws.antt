@@ -13,7 +13,7 @@ use Rattle.ck_log.specs.declared.faults.OpenLog.{OpenLog}
 use Rattle.ck_log.specs.declared.faults.OpenLog.TheVariants as open_log
 use Rattle.ck_log.specs.declared.header.Sizes.{Sizes}
 use Rattle.ck_log.proofs.Parts.{part_agrees}
-use Rattle.ck_log.proofs.Areas.{area_low, area_high, table_at}
+use Rattle.ck_log.proofs.AreaLaws.{area_low, area_high, table_at}
 use Rattle.ck_log.proofs.Phases.{same_gate}
 
 -- ---- the header that is written opens

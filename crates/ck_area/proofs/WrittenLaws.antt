@@ -20,32 +20,16 @@ use Rattle.ck_model.specs.Key.{entry_cmp, entry_cmp_total, entry_cmp_exact}
 use Rattle.ck_model.specs.Held.{IsWord, IsEntry, IsFileset}
 use Rattle.ck_model.specs.Table.{Table, IsTable, IsSized, record_count}
 use Rattle.ck_model.specs.Rules.{IsSound}
-use Rattle.ck_model.proofs.Filesets.{all_found}
+use Rattle.ck_model.proofs.FilesetLaws.{all_found}
 use Rattle.ck_record.specs.declared.records.Record.{Record}
 use Rattle.ck_record.specs.declared.records.Record.TheVariants.{Free, Counters as CountersRecord, Fileset as FilesetRecord, Entry}
 use Rattle.ck_record.specs.Record.{IsRecord}
-use Rattle.ck_area.specs.Area.{Area, entries_in, filesets_in, counters_in, no_counters, table_of, records_of, written_as}
+use Rattle.ck_area.specs.Area.{Area, entries_in, filesets_in, counters_in, no_counters, table_of, records_of, written_as, AreRecords, fileset_slots, entry_slots, free_slots, left_free}
 use Rattle.ck_area.specs.Damage.{breaks_fileset, breaks_lower, damage, is_unbuilt_form, is_unbuilt}
 use Rattle.ck_area.proofs.Fronts.{Each, none_of, none_passes, passes_none}
 use Rattle.ck_area.proofs.SlotsLemmas.{IsFineWhere, EntryFine, FilesetFine, entries_in-append, filesets_in-append, entries_in-more, filesets_in-more, no_damage}
 use Rattle.ck_area.proofs.UndamagedLemmas.{fileset_among}
 use Rattle.ck_area.proofs.LawfulLemmas.{fileset_there, filesets_lawful, entries_lawful}
-use Rattle.ck_area.proofs.TableOf.{AreRecords}
-
--- ---- the parts of an area
-
-abbrev pub fileset_slots : List (ℕ × Fileset) → Area
-fileset_slots filesets = list_map (λ value. Some value) (list_map (λ e. FilesetRecord e.0 e.1) filesets)
-
-abbrev pub entry_slots : List ((ℕ × Key) × Held) → Area
-entry_slots entries = list_map (λ value. Some value) (list_map (λ e. Entry e.0.0 e.0.1 e.1) entries)
-
-abbrev pub free_slots : ℕ → Area
-free_slots count = replicate count (Some Free)
-
--- how many slots are left free
-abbrev pub left_free : ℕ → Table → ℕ
-left_free slots t = slots - (1 + length (records_of t))
 
 pub written_parts : (slots : ℕ) (t : Table) → written_as slots t ≡ Some (CountersRecord t.counters) ∷ (fileset_slots (map.entries t.filesets) ++ entry_slots (map.entries t.entries) ++ free_slots (left_free slots t))
 written_parts slots t =
