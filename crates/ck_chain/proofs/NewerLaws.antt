@@ -12,6 +12,9 @@ use Rattle.ck_model.specs.Placed.{above}
 use Rattle.ck_model.proofs.FilesetLaws.{all_above}
 use Rattle.ck_chain.specs.Needless.{in_between}
 
+below_head : (x y : ℕ) (b : Bool) → T (is_lt (nat_cmp x y) && b) → (x < y) × T b
+below_head x y b h = grind (arith, nat_tests)
+
 sorted_tail : {X : Type 0} (e : ℕ × X) (es : List (ℕ × X)) → T (is_sorted nat_cmp (e ∷ es)) → T (is_sorted nat_cmp es)
 sorted_tail e es s = grind (arith, nat_tests)
 

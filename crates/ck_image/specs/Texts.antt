@@ -16,6 +16,7 @@ use Rattle.ck_image.specs.declared.refusal.Refusal.TheVariants as refusal
 use Rattle.ck_image.specs.declared.command.Command.{Command}
 use Rattle.ck_image.specs.declared.command.Command.TheVariants.{Verify, Apply}
 use Rattle.ck_image.specs.Images.{whole_in, applied_in}
+use Rattle.ck_model.specs.Limits.{input_limit}
 
 -- a space, and a number or bytes in hexadecimal
 abbrev pub number_words : ℕ → List ℕ
@@ -59,10 +60,6 @@ refusal_words refusal.NoMemory = []
 abbrev pub made_of : Command → List ℕ → Result (List ℕ) Refusal
 made_of Verify bytes = whole_in bytes >>= λ s. Ok (stream_line s)
 made_of Apply bytes = applied_in bytes >>= λ full. Ok (text (stream.Full full))
-
--- an input may have so many bytes
-abbrev pub input_limit : ℕ
-input_limit = 1073741824
 
 -- what a command prints, or why it refuses its input
 unfoldable pub printed : Command → List ℕ → Result (List ℕ) Refusal

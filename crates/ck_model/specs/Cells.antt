@@ -62,6 +62,11 @@ abbrev pub with_cells : Cells → List (Key × Cell) → Cells
 with_cells cells [] = cells
 with_cells cells (e ∷ es) = map.insert (with_cells cells es) e.0 e.1
 
+-- the map with this cell at the key, or with none there
+abbrev pub set_cell : Cells → Key → Option Cell → Cells
+set_cell cells key None = map.remove cells key
+set_cell cells key (Some cell) = map.insert cells key cell
+
 -- a block's cell without its bytes
 abbrev pub mark_of : Key → Cell → Cell
 mark_of key cell = if is_block key then record cell { payload = None } else cell

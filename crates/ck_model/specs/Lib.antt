@@ -25,3 +25,4 @@ pub mod Laws
 pub mod Ordinary
 pub mod Rows
 pub mod Placed
+pub mod Limits

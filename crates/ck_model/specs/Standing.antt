@@ -12,6 +12,7 @@ use Rattle.ck_model.specs.Values.{Store, Values, cells_on}
 use Rattle.std.specs.Ordering.{eq_by_cmp}
 use Rattle.std.specs.List.{list_any}
 use Rattle.ck_model.specs.Key.{key_cmp}
+use Rattle.ck_model.specs.Limits.{checkpoint_limit}
 
 -- the keys of all entries, whatever their filesets
 abbrev pub keys_of : Table → List Key
@@ -46,10 +47,6 @@ live_filesets t = filter (λ e. not e.1.gone) (map.entries t.filesets)
 
 abbrev pub checkpoints_on : Store → Table → List Checkpoint
 checkpoints_on store t = list_map (λ e. checkpoint_on store t e.0 e.1) (live_filesets t)
-
--- at most so many checkpoints may stand
-abbrev pub checkpoint_limit : ℕ
-checkpoint_limit = 64
 
 abbrev pub world_on : Store → Mounts → Table → World
 world_on store mounts t = record {

@@ -1,6 +1,6 @@
 -- A script that is cut off behind its limit.
 use Rattle.std.proofs.Common.{◌≡◌, ℕ, ◌+◌, List, take}
-use Rattle.ck_script.specs.Limits.{script_limit}
+use Rattle.ck_model.specs.Limits.{script_limit}
 use Rattle.ck_script.specs.Reading.{read_script}
 use Rattle.ck_script.proofs.ReadingLemmas.{read_at-take}
 

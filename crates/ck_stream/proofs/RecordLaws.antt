@@ -15,7 +15,8 @@ use Rattle.ck_stream.specs.declared.fault.Flaw.TheVariants as flaw
 use Rattle.ck_stream.specs.declared.tag.Tag.{Tag}
 use Rattle.ck_stream.specs.declared.tag.Tag.TheVariants as tag
 use Rattle.ck_stream.specs.Spelling.{key_text, payload_text, item_text}
-use Rattle.ck_stream.specs.Right.{size_limit, block_len, key_of, IsItem, IsPut}
+use Rattle.ck_stream.specs.Right.{key_of, IsItem, IsPut}
+use Rattle.ck_model.specs.Limits.{file_limit, block_len}
 use Rattle.ck_stream.specs.Reading.{◌>>=◌, number_at, run_at, tag_at, key_at, named_at, size_in, size_at, file_at, bytes_at, item_at, follows, item_in, record_at}
 use Rattle.ck_stream.proofs.Names.{Decides-le}
 use Rattle.ck_stream.proofs.FieldLaws.{IsBytes, bind_ok, met, done, ok_is, Takes, Takes-then, NumberTaken, word_takes, word_again, long_takes, long_again, run_takes, run_again}
@@ -102,13 +103,13 @@ named_takes (Name directory name) bytes read kind right fits e =
 named_takes (Node node) bytes read kind right fits e = absurd (omega arith)
 named_takes (Block node index) bytes read kind right fits e = absurd (omega arith)
 
-size_takes : (bytes : List ℕ) (read : ℕ × List ℕ) → IsBytes bytes → size_at bytes ≡ Ok read → NumberTaken w64 (2 ^ 64) bytes read × (read.0 ≤ size_limit)
+size_takes : (bytes : List ℕ) (read : ℕ × List ℕ) → IsBytes bytes → size_at bytes ≡ Ok read → NumberTaken w64 (2 ^ 64) bytes read × (read.0 ≤ file_limit)
 unfolding size_at
 size_takes bytes read fits e =
     let a = bind_ok (number_at w64 bytes) (λ size. size_in size) read e in
-    let m = met (nat_le a.0.0 size_limit) flaw.Wrong (Ok a.0) read a.2 in
-    subst (λ (x : ℕ × List ℕ). NumberTaken w64 (2 ^ 64) bytes x × (x.0 ≤ size_limit)) (ok_is a.0 read m.1)
-    (long_takes bytes a.0 fits a.1, (Decides-le a.0.0 size_limit).0 m.0)
+    let m = met (nat_le a.0.0 file_limit) flaw.Wrong (Ok a.0) read a.2 in
+    subst (λ (x : ℕ × List ℕ). NumberTaken w64 (2 ^ 64) bytes x × (x.0 ≤ file_limit)) (ok_is a.0 read m.1)
+    (long_takes bytes a.0 fits a.1, (Decides-le a.0.0 file_limit).0 m.0)
 
 file_takes : (key : Key) (bytes : List ℕ) (read : Item × List ℕ) → kind_of key ≡ 1 → IsKey key → IsBytes bytes → file_at key bytes ≡ Ok read → ItemTaken tag.File key bytes read
 unfolding file_at
@@ -222,11 +223,11 @@ named_again : (key : Key) (node : ℕ) (rest : List ℕ) → node < 2 ^ 32 → n
 unfolding named_at
 named_again key node rest right = rw (word_again node rest right) refl
 
-file_again : (key : Key) (size : ℕ) (rest : List ℕ) → size ≤ size_limit → file_at key (to_be_bytes w64 size ++ rest) ≡ Ok (Put key (File size), rest)
+file_again : (key : Key) (size : ℕ) (rest : List ℕ) → size ≤ file_limit → file_at key (to_be_bytes w64 size ++ rest) ≡ Ok (Put key (File size), rest)
 unfolding file_at size_at
 file_again key size rest right =
     let lt : size < 2 ^ 64 = omega arith in
-    rw (long_again size rest lt, (Decides-le size size_limit).1 right) refl
+    rw (long_again size rest lt, (Decides-le size file_limit).1 right) refl
 
 bytes_again : (key : Key) (bytes rest : List ℕ) → length bytes ≡ block_len → bytes_at key (bytes ++ rest) ≡ Ok (Put key (Bytes bytes), rest)
 unfolding bytes_at

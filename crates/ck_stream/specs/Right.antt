@@ -15,17 +15,12 @@ use Rattle.ck_stream.specs.declared.stream.Full.{Full}
 use Rattle.ck_stream.specs.declared.stream.Changed.{Changed}
 use Rattle.ck_stream.specs.declared.stream.Stream.{Stream}
 use Rattle.ck_stream.specs.declared.stream.Stream.TheVariants as stream
-
-abbrev pub size_limit : ℕ
-size_limit = 1073741824
-
-abbrev pub block_len : ℕ
-block_len = 4096
+use Rattle.ck_model.specs.Limits.{block_len, file_limit}
 
 -- what such a key may hold: a name a node, a node a file or a directory, a block its bytes
 abbrev pub Holds : Key → Payload → Type 0
 Holds (Name directory name) (To node) = IsWord node
-Holds (Node node) (File size) = size ≤ size_limit
+Holds (Node node) (File size) = size ≤ file_limit
 Holds (Node node) Dir = ⊤
 Holds (Block node index) (Bytes bytes) = length bytes ≡ block_len
 Holds _ _ = ⊥

@@ -23,7 +23,8 @@ use Rattle.ck_model.specs.declared.cell.Payload.TheVariants as payload
 use Rattle.ck_model.specs.Held.{IsKey, IsWord, IsEntry, IsStamp, BelongsTo}
 use Rattle.ck_model.specs.Cells.{Cells, size_at}
 use Rattle.ck_model.specs.Changes.{touched, with_node}
-use Rattle.ck_model.specs.Changing.{with_primary, has_names, is_spent, file_limit}
+use Rattle.ck_model.specs.Changing.{with_primary, has_names, is_spent}
+use Rattle.ck_model.specs.Limits.{file_limit}
 use Rattle.ck_model.specs.Rules.{IsOrderly, KeyBelow, SmallBelow}
 use Rattle.ck_model.specs.Table.{Table, IsTable, IsSized, column}
 use Rattle.ck_model.specs.Chain.{present, value_at}

@@ -3,7 +3,7 @@ use Rattle.std.specs.Prelude.{◌≡◌, ◌<◌, ◌≤◌, ℕ, IsTrue}
 use Rattle.ck_disk.specs.Disk.{Image, Meaning, Rose}
 use Rattle.ck_log.specs.Layout.{size_of}
 use Rattle.ck_model.specs.World.{World, empty_world}
-use Rattle.ck_model.specs.Standing.{checkpoint_limit}
+use Rattle.ck_model.specs.Limits.{checkpoint_limit}
 use Rattle.ck_volume.specs.declared.format.FormatFault.{FormatFault}
 use Rattle.ck_volume.specs.declared.format.FormatFault.TheVariants as fault
 use Rattle.ck_volume.specs.declared.engine.Engine.{Engine}

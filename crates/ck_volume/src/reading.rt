@@ -1,6 +1,6 @@
 ghost use Rattle.std.specs.Prelude.{◌≡◌, ◌+◌, ◌≤◌, ◌<◌, ◌++◌, IsTrue, OnOk, IfOk, IfErr};
 ghost use Rattle.std.specs.Option.{ForSome, option_and_then};
-ghost use Rattle.ck_model.specs.Changing.{file_limit};
+ghost use Rattle.ck_model.specs.Limits.{file_limit};
 ghost use Rattle.ck_model.specs.Reading.{file_range};
 ghost use Rattle.ck_model.specs.Values.{cells_on};
 ghost use Rattle.ck_model.specs.Rules.{block_in};

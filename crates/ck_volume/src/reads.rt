@@ -1,5 +1,5 @@
 ghost use Rattle.std.specs.Prelude.{◌≡◌, ◌+◌, ◌≤◌, false, IsTrue, IfOk, IfErr};
-ghost use Rattle.ck_model.specs.Changing.{file_limit};
+ghost use Rattle.ck_model.specs.Limits.{file_limit};
 ghost use Rattle.ck_model.specs.World.{World};
 ghost use Rattle.ck_model.specs.Reporting.{range_read, checkpoint_read};
 ghost use Rattle.ck_model.specs.History.{is_fault};

@@ -18,8 +18,8 @@ use Rattle.ck_chain.proofs.OrderlyLaws.{positive_id}
 use Rattle.ck_chain.proofs.HolderLaws.{says_still, some_holder, none_holder, needed_here, needed_tidied, orderly_tidied}
 use Rattle.ck_chain.proofs.TidyLaws.{column-tidied}
 use Rattle.ck_push.specs.Changed.{push_into, push_of, replaced, tidied_in, changed}
-use Rattle.ck_push.proofs.PushLaws.{MaySet, orderly_replaced}
-use Rattle.ck_push.proofs.SeenLaws.{after, column-after, column-after_other}
+use Rattle.ck_push.proofs.PushLemmas.{MaySet, orderly_replaced}
+use Rattle.ck_push.proofs.SeenLemmas.{after, column-after, column-after_other}
 
 -- what is pushed of a primary's entry is no absent
 pub own_pushed : (keeps : Bool) (old : Held) → IsOwn old → pushed keeps (Some old) ≢ Absent

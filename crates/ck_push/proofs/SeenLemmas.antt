@@ -70,45 +70,15 @@ replaced_reads t key new positive fs q live =
       | None ↦ λ passes le. absurd le
     ] (last_passes (is_live t) (newer t 0)) (newest_at_least t fs above live)
 
--- so does the change, with the newest checkpoint tidied
-pub changed_reads : (t : Table) (key : Key) (new : Option Held) → IsTable t → (fs : ℕ) (q : Key) → is_live t fs ≡ true → seen (changed t key new) fs q ≡ seen t fs q
-changed_reads t key new lawful fs q live =
-    let u = replaced t key (push_of t key) new in
-    let positive : (id : ℕ) → IsSome (map.get t.filesets id) → 1 ≤ id = λ id stands. positive_id t id lawful stands in
-    let above : 0 < fs = positive fs (live_stands t fs live) in
-    elim (newest_live_of t) as (λ o. IfSome o (λ n. is_live t n ≡ true) → seen (tidied_in u key o) fs q ≡ seen u fs q) [
-      | None ↦ λ passes. refl
-      | Some n ↦ λ passes. let stands = live_stands t n passes in tidied_reads u n key (positive n stands) stands fs q above
-    ] (last_passes (is_live t) (newer t 0))
-    ∙ replaced_reads t key new positive fs q live
-
 apart : (q key : Key) → q ≢ key → eq_by_cmp key_cmp q key ≡ false
 apart q key differ = elim (same_or_other q key) [ inl same ↦ absurd (differ same) | inr other ↦ other ]
 
-other_tidied : (u : Table) (key : Key) (fs : Option ℕ) (q : Key) → q ≢ key → column (tidied_in u key fs) q ≡ column u q
+pub other_tidied : (u : Table) (key : Key) (fs : Option ℕ) (q : Key) → q ≢ key → column (tidied_in u key fs) q ≡ column u q
 other_tidied u key None q differ = refl
 other_tidied u key (Some fs) q differ = λ i g. (elim (column-tidied u fs key g q) as (λ _. column (tidied_in u key (Some fs)) q g ≡ column u q g) [ inl same ↦ same | inr gone ↦ absurd (differ gone.1) ]) i
 
-other_replaced : (t : Table) (key : Key) (push : Option (ℕ × Held)) (new : Option Held) (q : Key) → q ≢ key → column (replaced t key push new) q ≡ column t q
+pub other_replaced : (t : Table) (key : Key) (push : Option (ℕ × Held)) (new : Option Held) (q : Key) → q ≢ key → column (replaced t key push new) q ≡ column t q
 other_replaced t key None new q differ = column-with_entry_other t 0 key new q (apart q key differ)
 other_replaced t key (Some entry) new q differ =
     column-with_entry_other (with_entry t entry.0 key (Some entry.1)) 0 key new q (apart q key differ)
     ∙ column-with_entry_other t entry.0 key (Some entry.1) q (apart q key differ)
-
--- no other key's entries change
-pub others_stay : (t : Table) (key : Key) (new : Option Held) (q : Key) → q ≢ key → column (changed t key new) q ≡ column t q
-others_stay t key new q differ =
-    other_tidied (replaced t key (push_of t key) new) key (newest_live_of t) q differ
-    ∙ other_replaced t key (push_of t key) new q differ
-
--- the primary's entry is the new one
-pub primary_changed : (t : Table) (key : Key) (new : Option Held) → IsTable t → column (changed t key new) key 0 ≡ new
-primary_changed t key new lawful =
-    let u = replaced t key (push_of t key) new in
-    elim (newest_live_of t) as (λ o. IfSome o (λ n. is_live t n ≡ true) → column (tidied_in u key o) key 0 ≡ column u key 0) [
-      | None ↦ λ passes. refl
-      | Some n ↦ λ passes.
-          let above = positive_id t n lawful (live_stands t n passes) in
-          elim (column-tidied u n key 0 key) [ inl same ↦ same | inr gone ↦ let zero = gone.0 in absurd (omega arith) ]
-    ] (last_passes (is_live t) (newer t 0))
-    ∙ column-with_entry (record t { entries = with_push t.entries key (push_of t key) }) 0 key new 0

@@ -16,7 +16,7 @@ use Rattle.ck_chain.specs.Fits.{Fits}
 use Rattle.ck_chain.proofs.PushedLaws.{fits_moved, fits_absent, stamp_pushed, block_pushed, entry_pushed}
 use Rattle.ck_chain.proofs.NameLaws.{named_entry}
 use Rattle.ck_push.specs.Changed.{push_into, push_of, replaced}
-use Rattle.ck_push.proofs.Replacing.{after_push, replaced_in_steps}
+use Rattle.ck_push.proofs.ReplacedLemmas.{after_push, replaced_in_steps}
 
 -- the primary's entry goes into the newest checkpoint that isn't gone, where neither it nor a newer one has an entry
 pub record IsPush (t : Table) (key : Key) (entry : ℕ × Held) : Type 0 where

@@ -26,10 +26,10 @@ use Rattle.ck_chain.proofs.TidyLaws.{tidied_count}
 use Rattle.ck_chain.specs.Changes.{key_of, value_after}
 use Rattle.ck_push.specs.Changed.{push_into, push_of, replaced, tidied_in, changed}
 use Rattle.ck_push.specs.Growth.{one_if, absent_goes, gain, loss}
-use Rattle.ck_push.proofs.Replacing.{after_push, primary_stays}
-use Rattle.ck_push.proofs.PushLaws.{IsPush, push_facts, push_bare, push_apart}
-use Rattle.ck_push.proofs.SeenLaws.{after, column-after}
-use Rattle.ck_push.proofs.NeedLaws.{own_pushed, covered_stays, older_stays, pushed_there}
+use Rattle.ck_push.proofs.ReplacedLemmas.{after_push, primary_stays}
+use Rattle.ck_push.proofs.PushLemmas.{IsPush, push_facts, push_bare, push_apart}
+use Rattle.ck_push.proofs.SeenLemmas.{after, column-after}
+use Rattle.ck_push.proofs.NeedLemmas.{own_pushed, covered_stays, older_stays, pushed_there}
 
 push_counts : (t : Table) (key : Key) (push : Option (ℕ × Held)) → IfSome push (IsPush t key) → record_count (after_push t key push) ≡ record_count t + one_if (is_some push)
 push_counts t key None facts = omega arith

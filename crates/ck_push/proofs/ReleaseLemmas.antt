@@ -15,8 +15,8 @@ use Rattle.ck_chain.proofs.PushedLaws.{block_pushed}
 use Rattle.ck_chain.proofs.NameLaws.{named_here, named_written, named_else, named_without, named_tidied, named_before_tidied}
 use Rattle.ck_push.specs.Changed.{push_of, replaced, tidied_in, changed}
 use Rattle.ck_push.specs.Released.{unless_kept, released}
-use Rattle.ck_push.proofs.Replacing.{after_push, replaced_in_steps, primary_stays}
-use Rattle.ck_push.proofs.PushLaws.{IsPush, push_facts, push_bare, push_apart, push_above}
+use Rattle.ck_push.proofs.ReplacedLemmas.{after_push, replaced_in_steps, primary_stays}
+use Rattle.ck_push.proofs.PushLemmas.{IsPush, push_facts, push_bare, push_apart, push_above}
 
 -- the block that the pushed entry names
 abbrev pub kept_block : Option (ℕ × Held) → Option ℕ
