@@ -66,10 +66,3 @@ IsAnswer old new (Gone id) = ⊥
 IsAnswer old new (NoData id) = ⊥
 IsAnswer old new ReadFault = Rose old.read_faults new.read_faults
 IsAnswer old new NoMemory = ⊤
-
--- nothing is written
-pub record OnlyReads (old new : Meaning) : Type 0 where
-  pub shows : new.shows ≡ old.shows
-  pub crash : Within new.may_leave old.may_leave
-  pub marks : KeepsClean old.written new.written
-  pub step : Step old new

@@ -1,3 +1,4 @@
 pub mod MomentLaws
 pub mod Steps
 pub mod Tearing
+pub mod RunLaws

@@ -17,8 +17,8 @@ pub set_same : (at : ℕ) (s : Image) → (b : List ℕ) × (s ≡ set s at b)
 set_same at s = (get_or s at [], sym (set-get_or s at []))
 
 -- before the first call
-pub started : (m : Meaning) (P : Image → Type 0) → Lawful m → ((c : Image) → m.may_leave c → P c) → LeavesOnly m m P
-started m P law here = record {
+pub leaves_start : (m : Meaning) (P : Image → Type 0) → Lawful m → ((c : Image) → m.may_leave c → P c) → LeavesOnly m m P
+leaves_start m P law here = record {
   size = refl;
   tells = refl;
   reads = omega arith;
@@ -29,8 +29,8 @@ started m P law here = record {
 }
 
 -- one call more, after which a crash leaves what has P
-pub goes_on : (old mid new : Meaning) (P : Image → Type 0) → LeavesOnly old mid P → Step mid new → ((c : Image) → new.may_leave c → P c) → LeavesOnly old new P
-goes_on old mid new P so_far step here = record {
+pub leaves_step : (old mid new : Meaning) (P : Image → Type 0) → LeavesOnly old mid P → Step mid new → ((c : Image) → new.may_leave c → P c) → LeavesOnly old new P
+leaves_step old mid new P so_far step here = record {
   size = step.size ∙ so_far.size;
   tells = step.tells ∙ so_far.tells;
   reads = omega (arith, so_far.reads, step.reads);
@@ -40,8 +40,9 @@ goes_on old mid new P so_far step here = record {
   before = λ t c le left. ⊎_elim (so_far.before t c le) (λ now. inr (here c now)) (step.nothing_else t c (omega (arith, le, so_far.later)) left);
 }
 
-pub weakens : (old new : Meaning) (P Q : Image → Type 0) → LeavesOnly old new P → ((c : Image) → P c → Q c) → LeavesOnly old new Q
-weakens old new P Q run more = record {
+-- any that implies another
+pub leaves_more : (old new : Meaning) (P Q : Image → Type 0) → ((c : Image) → P c → Q c) → LeavesOnly old new P → LeavesOnly old new Q
+leaves_more old new P Q more run = record {
   size = run.size;
   tells = run.tells;
   reads = run.reads;
@@ -52,8 +53,8 @@ weakens old new P Q run more = record {
 }
 
 -- two runs, one after the other
-pub joins : (old mid new : Meaning) (P : Image → Type 0) → LeavesOnly old mid P → LeavesOnly mid new P → LeavesOnly old new P
-joins old mid new P a b = record {
+pub leaves_both : (old mid new : Meaning) (P : Image → Type 0) → LeavesOnly old mid P → LeavesOnly mid new P → LeavesOnly old new P
+leaves_both old mid new P a b = record {
   size = b.size ∙ a.size;
   tells = b.tells ∙ a.tells;
   reads = omega (arith, a.reads, b.reads);
@@ -64,8 +65,8 @@ joins old mid new P a b = record {
 }
 
 -- what may be left now has P
-pub now : (old new : Meaning) (P : Image → Type 0) → Lawful new → LeavesOnly old new P → (c : Image) → new.may_leave c → P c
-now old new P law run c left = run.each c (law.counts_now old.moment c run.later left)
+pub leaves_now : (old new : Meaning) (P : Image → Type 0) → Lawful new → LeavesOnly old new P → (c : Image) → new.may_leave c → P c
+leaves_now old new P law run c left = run.each c (law.counts_now old.moment c run.later left)
 
 pub agrees_same : (K : ℕ → Type 0) (c : Image) → Agrees K c c
 agrees_same K c = record { size = refl; at = λ k in_k. refl }
@@ -93,11 +94,11 @@ reaches_torn K all old new at apart so_far torn c left =
 pub writes_on : (K : ℕ → Type 0) (old mid new : Meaning) (at : ℕ) → ((k : ℕ) → K k → k ≢ at) → Lawful mid
     → LeavesOnly old mid (Reaches K old.may_leave) → Step mid new → TearsAt at mid.may_leave new.may_leave → LeavesOnly old new (Reaches K old.may_leave)
 writes_on K old mid new at apart law run step torn =
-    goes_on old mid new (Reaches K old.may_leave) run step (reaches_torn K old.may_leave mid.may_leave new.may_leave at apart (now old mid (Reaches K old.may_leave) law run) torn)
+    leaves_step old mid new (Reaches K old.may_leave) run step (reaches_torn K old.may_leave mid.may_leave new.may_leave at apart (leaves_now old mid (Reaches K old.may_leave) law run) torn)
 
 -- a read or a sync
 pub keeps_on : (old mid new : Meaning) (P : Image → Type 0) → Lawful mid → LeavesOnly old mid P → Step mid new → Within new.may_leave mid.may_leave → LeavesOnly old new P
-keeps_on old mid new P law run step within = goes_on old mid new P run step (λ c left. now old mid P law run c (within c left))
+keeps_on old mid new P law run step within = leaves_step old mid new P run step (λ c left. leaves_now old mid P law run c (within c left))
 
 -- a write to a disk whose one image is known
 pub torn_only : (at : ℕ) (s : Image) (old new : Image → Type 0) → Only s old → TearsAt at old new → (c : Image) → new c → Agrees (Outside at 1) s c

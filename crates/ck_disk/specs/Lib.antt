@@ -5,3 +5,4 @@ pub mod MemRecord
 pub mod MemLaws
 pub mod MemDisk
 pub mod Silent
+pub mod Runs

@@ -88,7 +88,7 @@ module _ {K X : Type 0} {R : K → K → Ordering} (total : IsTotalOrder R) (exa
   -- a map has no more entries than the list that it is made from
   pub len-from_entries-le : (es : List (K × X)) → map.len (map.from_entries {R = R} es) ≤ length es
   len-from_entries-le [] = let none = map.len-empty R X in omega (arith, none)
-  len-from_entries-le (e ∷ es) = omega (arith, len-insert-le total exact (map.from_entries es) e.0 e.1, len-from_entries-le es)
+  len-from_entries-le (e ∷ es) = omega (arith, len-insert-le (map.from_entries es) e.0 e.1, len-from_entries-le es)
 
 -- two maps with the same keys have the same size
 pub len_same_keys : {K X Y : Type 0} {R : K → K → Ordering} (total : IsTotalOrder R) (exact : IsAntisymmetric R) (m : map.FinMap R X) (n : map.FinMap R Y)

@@ -17,7 +17,7 @@ use Rattle.ck_area.proofs.WrittenLaws.{read_again, undamaged_written, built_writ
 use Rattle.ck_volume.specs.Allocating.{is_named, is_busy}
 use Rattle.ck_volume.specs.Device.{store_on}
 use Rattle.ck_volume.specs.Plain.{IsOurs}
-use Rattle.ck_volume.specs.Reading.{OnlyReads}
+use Rattle.ck_disk.specs.Runs.{OnlyReads}
 use Rattle.ck_volume.specs.Recovering.{Opens, BadFormat, world_in, unless_damaged, recovery_of, FindsBy, Recovers}
 use Rattle.ck_volume.specs.Safe.{IsNamedAt, HoldsTable, IsSafe}
 use Rattle.ck_volume.specs.Storing.{StoredOrSame, LeavesTorn, OnlyStores}

@@ -9,7 +9,8 @@ use Rattle.ck_volume.specs.declared.format.FormatFault.TheVariants as fault
 use Rattle.ck_volume.specs.declared.engine.Engine.{Engine}
 use Rattle.ck_volume.specs.Exact.{IsExact}
 use Rattle.ck_volume.specs.Opening.{IsBegun}
-use Rattle.ck_volume.specs.Engine.{world_of, KeepsWorld, Runs}
+use Rattle.ck_volume.specs.Engine.{world_of, KeepsWorld}
+use Rattle.ck_disk.specs.Runs.{Runs}
 
 -- the world of a new volume: the root directory alone
 abbrev pub new_world : ℕ → ℕ → World

@@ -9,7 +9,8 @@ ghost use Rattle.ck_model.specs.Standing.{values_of};
 ghost use Rattle.ck_volume.specs.Plain.{IsOurs};
 ghost use Rattle.ck_volume.specs.Device.{store_on};
 ghost use Rattle.ck_volume.specs.declared.fault.Fault.TheVariants.{ReadFault};
-ghost use Rattle.ck_volume.specs.Reading.{bytes_of, part_of, IsFilled, OnlyReads, IsReadingFault};
+ghost use Rattle.ck_volume.specs.Reading.{bytes_of, part_of, IsFilled, IsReadingFault};
+ghost use Rattle.ck_disk.specs.Runs.{OnlyReads};
 
 use crate::fault::Fault;
 use ck_chain::value;
