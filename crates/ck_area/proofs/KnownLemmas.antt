@@ -85,16 +85,6 @@ entry_at_home filesets gs other held fs key home =
       | false ↦ λ apart. sym (same_none (is_home filesets fs))
     ] refl
 
-pub entry_abroad : (filesets : ℕ → Option Fileset) (gs : ℕ) (other : Key) (held : Held) (fs : ℕ) (key : Key) → is_home filesets gs ≡ false
-    → found_at_home filesets (((gs, other), held) ∷ []) fs key ≡ None
-entry_abroad filesets gs other held fs key abroad =
-    elim (eq_by_cmp entry_cmp (fs, key) (gs, other)) as (λ b. eq_by_cmp entry_cmp (fs, key) (gs, other) ≡ b → cond (is_home filesets fs) (cond b (Some held) None) None ≡ None) [
-      | true ↦ λ tied.
-          let same : fs ≡ gs = ap (λ x. x.0) (tied_entry (fs, key) (gs, other) tied) in
-          ap (λ b. cond b (Some held) None) (ap (is_home filesets) same ∙ abroad)
-      | false ↦ λ apart. same_none (is_home filesets fs)
-    ] refl
-
 -- ---- an entry that is added where none stands
 
 tied_column : (q place : Key × ℕ) → eq_by_cmp column_order q place ≡ true → q ≡ place

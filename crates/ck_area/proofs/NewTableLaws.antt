@@ -1,6 +1,5 @@
 -- The first table of a volume, and the area that it is written as.
-use Rattle.std.proofs.Common.{◌≡◌, ℕ, ◌+◌, ◌-◌, ◌≤◌, lit<, lit≤, List, [], ◌∷◌, ◌++◌, map as list_map, length, Some, is_some, refl, sym, ap, subst, ◌∙◌, inl, inr, arith}
-use Rattle.std.specs.Prelude.{replicate}
+use Rattle.std.proofs.Common.{◌≡◌, ℕ, ◌-◌, ◌≤◌, lit<, lit≤, [], ◌∷◌, length, is_some, refl, sym, ap, subst, ◌∙◌, inl, inr, arith}
 use Rattle.std.specs.Ordering.{nat_cmp}
 use Rattle.std.specs.FinMap.{put}
 use Rattle.std.specs.declared.cmp.Ordering.{Ordering}
@@ -13,14 +12,11 @@ use Rattle.ck_model.specs.declared.held.Held.{Held}
 use Rattle.ck_model.specs.declared.held.Held.TheVariants.{Plain}
 use Rattle.ck_model.specs.declared.held.Small.TheVariants.{Dir}
 use Rattle.ck_model.specs.declared.checkpoint.Counters.{Counters}
-use Rattle.ck_model.specs.declared.checkpoint.Fileset.{Fileset}
 use Rattle.ck_model.specs.Key.{entry_cmp, entry_cmp_total}
 use Rattle.ck_model.specs.Held.{IsWord, IsEntry}
 use Rattle.ck_model.specs.Table.{IsTable, IsSized, record_count}
 use Rattle.ck_model.specs.Rules.{IsSound}
-use Rattle.ck_record.specs.declared.records.Record.{Record}
-use Rattle.ck_record.specs.declared.records.Record.TheVariants.{Free, Counters as CountersRecord, Fileset as FilesetRecord, Entry}
-use Rattle.ck_area.specs.Area.{records_of, written_as, new_table}
+use Rattle.ck_area.specs.Area.{new_table}
 use Rattle.ck_area.proofs.Fronts.{Among}
 use Rattle.ck_area.proofs.UndamagedLemmas.{entry_among, sound}
 
@@ -39,13 +35,6 @@ module _ (blocks records : ℕ) where
 
   pub new_filesets : map.entries (new_table blocks records).filesets ≡ []
   new_filesets = no_entries nat_cmp
-
-  new_records : records_of (new_table blocks records) ≡ Entry 0 (Node 0) (Plain 0 Dir) ∷ []
-  new_records = λ i. list_map (λ (e : ℕ × Fileset). FilesetRecord e.0 e.1) (new_filesets i) ++ list_map (λ (e : (ℕ × Key) × Held). Entry e.0.0 e.0.1 e.1) (new_entries i)
-
-  -- the counters, the root directory's node, and free slots
-  pub new_written : (slots : ℕ) → written_as slots (new_table blocks records) ≡ Some (CountersRecord first) ∷ Some (Entry 0 (Node 0) (Plain 0 Dir)) ∷ replicate (slots - 2) (Some Free)
-  new_written slots = ap (λ (l : List Record). list_map (λ value. Some value) (CountersRecord first ∷ l) ++ replicate (slots - (1 + length l)) (Some Free)) new_records
 
   root_within : IsWord 0 × IsEntry (Node 0) (Plain 0 Dir)
   root_within = (lit< tt, record { place = lit< tt; value = lit< tt })

@@ -1,5 +1,5 @@
 -- The table of an area without damage is one that a volume may have.
-use Rattle.std.proofs.Common.{◌≡◌, ℕ, zero, suc, ◌+◌, ◌<◌, ◌≤◌, lit<, lit≤, List, [], ◌∷◌, length, get_or, Option, Some, None, IsSome, IfSome, refl, sym, subst, inl, inr, arith}
+use Rattle.std.proofs.Common.{◌≡◌, ℕ, suc, ◌+◌, ◌<◌, ◌≤◌, lit<, lit≤, List, [], ◌∷◌, length, get_or, Option, Some, None, IfSome, refl, sym, subst, inl, inr, arith}
 use Rattle.std.specs.List.{AllByRecursion}
 use Rattle.std.specs.Option.{unwrap_or}
 use Rattle.std.specs.FinMap.{nat_cmp-IsAntisymmetric}
@@ -19,7 +19,7 @@ use Rattle.ck_record.specs.Record.{IsRecord}
 use Rattle.ck_area.specs.Area.{Blocks, Area, AreSlots, IsReadAs, slot_at, slot_bytes, entries_in, filesets_in, counters_by, counters_in, no_counters, table_of, AreRecords}
 use Rattle.ck_area.specs.Damage.{damage}
 use Rattle.ck_area.proofs.Fronts.{Among}
-use Rattle.ck_area.proofs.SlotsLemmas.{all_fine, entries_fine, filesets_fine, count_fine, slots_some}
+use Rattle.ck_area.proofs.SlotsLemmas.{all_fine, entries_fine, filesets_fine, count_fine}
 use Rattle.ck_area.proofs.UndamagedLemmas.{entry_among, fileset_among, sound}
 use Rattle.ck_model.proofs.SizeLaws.{len-from_entries-le}
 
@@ -34,9 +34,6 @@ read_within bytes (Some v) h = h.1
 -- what is read of blocks is within the limits
 pub records_of_slots : (blocks : Blocks) (area : Area) → AreSlots blocks area → AreRecords area
 records_of_slots blocks area slots = all_at (λ x. IfSome x IsRecord) None area (λ i h. read_within (slot_bytes blocks i) (slot_at area i) (slots.each i h))
-
-pub records_of_each : (area : Area) → ((slot : ℕ) → slot < length area → IfSome (slot_at area slot) IsRecord) → AreRecords area
-records_of_each area each = all_at (λ x. IfSome x IsRecord) None area each
 
 -- ---- within the limits
 
@@ -97,21 +94,7 @@ counters_first blocks records (Some (CountersRecord c)) area none = refl
 counters_first blocks records (Some (FilesetRecord id f)) area none = absurd (false≢true (sym (all_fine blocks records (Some (FilesetRecord id f) ∷ area) none).0.fine))
 counters_first blocks records (Some (Entry fs key held)) area none = absurd (false≢true (sym (all_fine blocks records (Some (Entry fs key held) ∷ area) none).0.fine))
 
--- the counters stand in slot 0
-pub first_is_counters : (blocks records : ℕ) (area : Area) → damage blocks records area ≡ None → 1 ≤ length area → slot_at area 0 ≡ Some (CountersRecord (table_of blocks records area).counters)
-first_is_counters blocks records [] none some = absurd (omega (arith, some))
-first_is_counters blocks records (x ∷ area) none some = counters_first blocks records x area none
-
 -- ---- sound, and of the right size
-
-some_at : {X : Type 0} (xs : List (Option X)) (i : ℕ) → AllByRecursion IsSome xs → i < length xs → IsSome (get_or xs i None)
-some_at [] i all h = absurd (omega (arith, h))
-some_at (x ∷ xs) zero all h = all.0
-some_at (x ∷ xs) (suc i) all h = some_at xs i all.1 (omega (arith, h))
-
--- each slot has a record
-pub undamaged_slots : (blocks records : ℕ) (area : Area) → damage blocks records area ≡ None → (slot : ℕ) → slot < length area → IsSome (slot_at area slot)
-undamaged_slots blocks records area none slot h = some_at area slot (slots_some blocks records area [] area (all_fine blocks records area none)) h
 
 with_counters_sound : (blocks records : ℕ) (c : Counters) (area : Area) → damage blocks records (Some (CountersRecord c) ∷ area) ≡ None → IsSound (table_of blocks records (Some (CountersRecord c) ∷ area))
 with_counters_sound blocks records c area none =

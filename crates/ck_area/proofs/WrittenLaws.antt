@@ -1,6 +1,5 @@
 -- The area that a sound table is written as has no damage, and is read as that table.
-use Rattle.std.proofs.Common.{◌≡◌, ℕ, zero, suc, ◌+◌, ◌-◌, ◌*◌, ◌/◌, ◌≤◌, Bool, true, false, ◌&&◌, nat_lt, List, [], ◌∷◌, ◌++◌, map as list_map, length, length-append, Option, Some, None, IfSome, refl, sym, ap, subst, ◌∙◌, append_assoc, append-nil, arith}
-use Rattle.std.specs.Prelude.{replicate}
+use Rattle.std.proofs.Common.{◌≡◌, ℕ, zero, suc, ◌+◌, ◌-◌, ◌≤◌, Bool, true, false, ◌&&◌, nat_lt, List, [], ◌∷◌, ◌++◌, map as list_map, length, length-append, Option, Some, None, IfSome, refl, sym, ap, subst, ◌∙◌, append_assoc, append-nil, arith}
 use Rattle.std.specs.Bool.{⊤}
 use Rattle.std.specs.List.{list_any, AllByRecursion}
 use Rattle.std.specs.Ordering.{nat_cmp}
@@ -114,14 +113,6 @@ length_written slots t fits =
     let two : length (free_slots (left_free slots t)) ≡ left_free slots t = length-replicate (left_free slots t) (Some Free) in
     let count = count_written t in
     omega (arith, both, one, two, count, fits)
-
--- the slots of a table's blocks have room for the counters and all records
-pub room_written : (t : Table) → IsSized t → 1 + record_count t ≤ 32 * ((t.records + 32) / 32)
-room_written t sized = let fits = sized.fits in omega (arith, fits)
-
--- it fills the slots of a table's blocks
-pub length_written_whole : (t : Table) → IsSized t → length (written_as (32 * ((t.records + 32) / 32)) t) ≡ 32 * ((t.records + 32) / 32)
-length_written_whole t sized = length_written (32 * ((t.records + 32) / 32)) t (room_written t sized)
 
 -- ---- no slot breaks a rule
 

@@ -2,7 +2,7 @@
 use Rattle.std.specs.Prelude.{◌≡◌, ⊤, ◌+◌, ℕ, ◌&&◌, not, List, [], ◌∷◌, Option, Some, None, filter, nat_eq, get_or, if◌then◌else◌}
 use Rattle.std.specs.Option.{option_map}
 use Rattle.std.specs.FinMap as map
-use Rattle.ck_disk.specs.Disk.{Image, Meaning, Step, Within, Rose, KeepsClean}
+use Rattle.ck_disk.specs.Disk.{Image, Meaning, Rose}
 use Rattle.ck_model.specs.declared.key.Key.{Key}
 use Rattle.ck_model.specs.declared.cell.Cell.{Cell}
 use Rattle.ck_model.specs.declared.held.Held.{Held}

@@ -1,7 +1,7 @@
 -- How a run of disk calls goes on.
-use Rattle.std.proofs.Common.{◌≡◌, ◌≢◌, IsTrue, get_or, ◌≤◌, ◌<◌, ◌+◌, inl, inr, ⊎_elim, ℕ, List, [], set, refl, sym, ◌∙◌, subst, arith, get_or-set_other, ext_get_or}
+use Rattle.std.proofs.Common.{◌≡◌, ◌≢◌, IsTrue, get_or, inl, inr, ⊎_elim, ℕ, List, [], set, refl, sym, ◌∙◌, subst, arith, get_or-set_other, ext_get_or}
 use Rattle.std.proofs.lemmas.List.{length-set, set-get_or}
-use Rattle.ck_disk.specs.Disk.{Image, Meaning, Lawful, Step, LeavesOnly, TearsAt, Only, Within, Agrees, IsSynced, Reaches, Outside}
+use Rattle.ck_disk.specs.Disk.{Image, Meaning, Lawful, Step, LeavesOnly, TearsAt, Only, Within, Agrees, IsSynced, Reaches}
 
 -- where no write stands on a disk, a crash leaves what reads give
 pub synced_only : (m : Meaning) → Lawful m → IsTrue m.tells → IsSynced m → Only m.shows m.may_leave
@@ -99,13 +99,3 @@ writes_on K old mid new at apart law run step torn =
 -- a read or a sync
 pub keeps_on : (old mid new : Meaning) (P : Image → Type 0) → Lawful mid → LeavesOnly old mid P → Step mid new → Within new.may_leave mid.may_leave → LeavesOnly old new P
 keeps_on old mid new P law run step within = leaves_step old mid new P run step (λ c left. leaves_now old mid P law run c (within c left))
-
--- a write to a disk whose one image is known
-pub torn_only : (at : ℕ) (s : Image) (old new : Image → Type 0) → Only s old → TearsAt at old new → (c : Image) → new c → Agrees (Outside at 1) s c
-torn_only at s old new only torn c left =
-    let from = torn c left in
-    let same : Agrees (Outside at 1) from.0 c = subst (λ e. Agrees (Outside at 1) from.0 e) (sym from.3) (agrees_set (Outside at 1) from.0 at from.1 (apart_one at)) in
-    subst (λ e. Agrees (Outside at 1) e c) (only from.0 from.2) same
-  where
-    apart_one : (at k : ℕ) → Outside at 1 k → k ≢ at
-    apart_one at k outside same = ⊎_elim (λ (h : k < at). omega arith) (λ (h : at + 1 ≤ k). omega arith) outside

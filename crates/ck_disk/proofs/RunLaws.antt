@@ -1,5 +1,5 @@
 -- Calls on a device, one after the other.
-use Rattle.std.proofs.Common.{ℕ, refl, ◌∙◌, inl, inr, ⊎_elim, arith}
+use Rattle.std.proofs.Common.{refl, ◌∙◌, inl, inr, ⊎_elim, arith}
 use Rattle.ck_disk.specs.Disk.{Image, Meaning, Lawful, Step, Within, LeavesOnly}
 use Rattle.ck_disk.specs.Runs.{Runs, OnlyReads}
 use Rattle.ck_disk.proofs.MomentLaws.{leaves_more, leaves_both, leaves_now}
@@ -28,18 +28,6 @@ leaves_on old mid new law first second =
     leaves_both old mid new old.may_leave first (leaves_more mid new mid.may_leave old.may_leave (leaves_now old mid old.may_leave law first) second)
 
 -- ---- reads
-
--- no read
-pub step_itself : (m : Meaning) → Step m m
-step_itself m = record {
-  size = refl;
-  tells = refl;
-  reads = omega arith;
-  writes = omega arith;
-  later = omega arith;
-  nothing_else = λ t c le left. inl left;
-  keeps = λ t c le left. left;
-}
 
 -- two calls in a row, of which the first lets no crash leave more than before
 pub step_after : (old mid new : Meaning) → Lawful old → Within mid.may_leave old.may_leave → Step old mid → Step mid new → Step old new

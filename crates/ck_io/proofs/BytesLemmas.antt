@@ -1,11 +1,8 @@
 -- How bytes that are taken and bytes that are added go on.
-use Rattle.std.proofs.Common.{◌≡◌, ◌≤◌, ◌-◌, length, length-drop, arith, ℕ, Bool, IsTrue, List, [], ◌++◌, ◌+◌, take, drop, refl, sym, ◌∙◌, ap, subst, append_assoc}
-use Rattle.std.proofs.lemmas.List.{take-append-drop, append-nil, take_all, take_at, drop-drop, length-take-le}
+use Rattle.std.proofs.Common.{◌≡◌, ◌≤◌, ◌-◌, length, length-drop, arith, ℕ, List, ◌++◌, ◌+◌, take, drop, sym, ◌∙◌, ap, append_assoc}
+use Rattle.std.proofs.lemmas.List.{take-append-drop, take_all, take_at, drop-drop, length-take-le}
 use Rattle.std.proofs.Math.Seq.{take-add}
 use Rattle.ck_io.specs.Bytes.{EndsWith, GainsPrefix}
-
-pub ends_at_start : (bytes : List ℕ) → EndsWith bytes bytes
-ends_at_start bytes = record { taken = []; parts = refl }
 
 -- a rest of a rest is a rest
 pub ends_on : (bytes mid rest : List ℕ) → EndsWith bytes mid → EndsWith mid rest → EndsWith bytes rest
@@ -21,12 +18,6 @@ gains_taken count old new bytes is = record {
   parts = sym (take-append-drop count bytes);
   appended = is;
 }
-
-pub gains_nothing : (old bytes : List ℕ) → GainsPrefix old old bytes
-gains_nothing old bytes = record { gained = []; missing = bytes; parts = refl; appended = sym (append-nil old) }
-
-pub gains_all : (old new bytes : List ℕ) → new ≡ old ++ bytes → GainsPrefix old new bytes
-gains_all old new bytes is = record { gained = bytes; missing = []; parts = sym (append-nil bytes); appended = is }
 
 -- the bytes from a place on, as a slice to their end
 pub slice_rest : (written : ℕ) (bytes : List ℕ) → take (length bytes - written) (drop written bytes) ≡ drop written bytes

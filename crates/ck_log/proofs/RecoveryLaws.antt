@@ -1,13 +1,13 @@
 -- What an image says of its volume, and which changes to the image leave that as it was.
-use Rattle.std.proofs.Common.{◌≡◌, ◌≢◌, inl, ⊎_elim, ◌≤◌, ◌<◌, ◌+◌, ◌-◌, ◌&&◌, ◌==◌, nat_le, ℕ, Bool, true, false, not, IsTrue, bytes_eq, if◌then◌else◌, List, [], length, take, get_or, set, refl, sym, ◌∙◌, ap, subst, arith, get_or-set_other}
+use Rattle.std.proofs.Common.{◌≡◌, ◌≢◌, ◌≤◌, ◌<◌, ◌+◌, ◌-◌, ◌&&◌, ◌==◌, nat_le, ℕ, Bool, true, false, not, IsTrue, bytes_eq, if◌then◌else◌, List, [], length, take, get_or, set, refl, sym, ◌∙◌, ap, subst, arith, get_or-set_other}
 use Rattle.std.specs.Prelude.{Result, Ok, Err, IfOk, IfErr}
 use Rattle.std.proofs.lemmas.Nat.{from_be_bytes-to_be_bytes_4}
 use Rattle.std.proofs.lemmas.List.{length-set}
 use Rattle.std.proofs.lemmas.Bool.Decides.{nat_tests}
-use Rattle.ck_disk.specs.Disk.{Image, Meaning, Lawful, Agrees, Outside, TearsAt, Within}
+use Rattle.ck_disk.specs.Disk.{Image, Meaning, Lawful, Agrees, Within}
 use Rattle.ck_log.specs.Layout.{Layout, IsSized, is_sized, table_blocks, area_at, base_of, size_of}
 use Rattle.ck_log.specs.Header.{Recovered, NotVolume, BadFormat, Opens, magic, header_of, number_at, sized_volume, recovered_by}
-use Rattle.ck_log.specs.Images.{names_second, recovered_region, table_on, area_of, HasTable, HasBefore, HasAfter, Settled, CommitLeaves}
+use Rattle.ck_log.specs.Images.{names_second, recovered_region, table_on, area_of, HasTable, Settled}
 use Rattle.ck_log.specs.Faults.{IsRefusal, IsOpenFault}
 use Rattle.ck_log.specs.declared.faults.OpenLog.{OpenLog}
 use Rattle.ck_log.specs.declared.faults.OpenLog.TheVariants as open_log
@@ -141,16 +141,6 @@ area_of-settled layout m law told settled = area_of-has layout (table_on layout 
 
 -- ---- a commit
 
--- each image of a commit has the volume from before, with the area that its own gate names
-pub recovered_region-commit : (layout : Layout) (after : Image) (old : Meaning) → Lawful old → IsTrue old.tells → ((d : Image) → old.may_leave d → recovered_region d ≡ Opens layout)
-    → (c : Image) → CommitLeaves layout after old c → recovered_region c ≡ Opens (record layout { second = names_second c })
-recovered_region-commit layout after old law told is c leaves =
-    let K = Outside 1 (base_of layout.records - 1) in
-    ⊎_elim
-    (λ (has : HasBefore layout (table_on layout old.shows) old.may_leave c). recovered_region-gate layout K has.others.0 c (inl (omega arith)) has.others.2 (is has.others.0 has.others.1))
-    (λ (has : HasAfter layout after old.shows c). recovered_region-gate layout K old.shows c (inl (omega arith)) has.others (is old.shows (law.shown told)))
-    (leaves told)
-
 -- and once it is done, the volume with the area that the region names
 pub recovered_region-settled : (layout : Layout) (second : Bool) (blocks c : Image) → recovered_region c ≡ Opens (record layout { second = names_second c }) → HasTable (record layout { second = second }) blocks c
     → recovered_region c ≡ Opens (record layout { second = second })
@@ -172,40 +162,6 @@ table_on-set layout image at b high =
   where
     below : (k : ℕ) → k < at → k ≢ at
     below k lt e = omega arith
-
--- and of every image that a crash then leaves
-pub recovered_region-torn : (found : Recovered) (at : ℕ) (old new : Image → Type 0) → 2 ≤ at → TearsAt at old new → ((c : Image) → old c → recovered_region c ≡ found) → (c : Image) → new c → recovered_region c ≡ found
-recovered_region-torn found at old new high torn is c left =
-    let from = torn c left in
-    ap recovered_region from.3 ∙ recovered_region-set from.0 at from.1 high ∙ is from.0 from.2
-
-torn_gate : (layout : Layout) (image : Image) (at : ℕ) (b : List ℕ) → base_of layout.records ≤ at → names_second (set image at b) ≡ names_second image
-torn_gate layout image at b high = ap (λ (g : List ℕ). get_or g 0 0 == 71) (get_or-set_other image at 1 b [] apart)
-  where
-    low : 2 ≤ area_at layout.records false
-    low = area_low layout.records false
-
-    end : area_at layout.records false + table_blocks layout.records ≤ base_of layout.records
-    end = area_high layout.records false
-
-    apart : 1 ≢ at
-    apart e = omega arith
-
--- what reads give of the table
-pub table_on-written : (layout : Layout) (old new : Image) (at : ℕ) → base_of layout.records ≤ at → (b : List ℕ) × (new ≡ set old at b) → table_on layout new ≡ table_on layout old
-table_on-written layout old new at high put = ap (table_on layout) put.1 ∙ table_on-set layout old at put.0 high
-
--- and that the region is settled
-pub settled-write : (layout : Layout) (old new : Meaning) (at : ℕ) → base_of layout.records ≤ at → new.tells ≡ old.tells → TearsAt at old.may_leave new.may_leave
-    → (IsTrue old.tells → (b : List ℕ) × (new.shows ≡ set old.shows at b)) → Settled layout old → Settled layout new
-settled-write layout old new at high tells torn put settled told c left =
-    let told_old : IsTrue old.tells = subst (λ (b : Bool). IsTrue b) tells told in
-    let from = torn c left in
-    let was = settled told_old from.0 from.2 in
-    record {
-      gate = ap names_second from.3 ∙ torn_gate layout from.0 at from.1 high ∙ was.gate;
-      table = ap (table_on layout) from.3 ∙ table_on-set layout from.0 at from.1 high ∙ was.table ∙ sym (table_on-written layout old.shows new.shows at high (put told_old));
-    }
 
 -- a read or a sync leaves it so too
 pub settled-keeps : (layout : Layout) (old new : Meaning) → new.tells ≡ old.tells → new.shows ≡ old.shows → Within new.may_leave old.may_leave → Settled layout old → Settled layout new

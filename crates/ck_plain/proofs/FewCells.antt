@@ -1,5 +1,5 @@
 -- How many cells a call that changes files puts at most, and the stamp after it.
-use Rattle.std.proofs.Common.{◌≡◌, ℕ, ◌+◌, ◌-◌, ◌*◌, ◌/◌, ◌%◌, ◌^◌, ◌≤◌, ◌<◌, ◌≢◌, ◌&&◌, ◌||◌, Bool, true, false, not, List, [], ◌∷◌, length, Result, Ok, Err, IfOk, nat_eq, nat_lt, map as list_map, if◌then◌else◌, refl, ap, arith, replicate}
+use Rattle.std.proofs.Common.{◌≡◌, ℕ, ◌+◌, ◌-◌, ◌/◌, ◌%◌, ◌^◌, ◌≤◌, ◌&&◌, ◌||◌, Bool, true, false, not, List, [], ◌∷◌, length, Result, Ok, Err, IfOk, nat_eq, nat_lt, map as list_map, if◌then◌else◌, refl, arith, replicate}
 use Rattle.std.specs.List.{range_with_len}
 use Rattle.std.specs.FinMap as map
 use Rattle.std.proofs.lemmas.List.{length-map}
@@ -14,7 +14,7 @@ use Rattle.ck_model.specs.declared.call.Call.{Call}
 use Rattle.ck_model.specs.declared.call.Call.TheVariants.{Make, Mkdir, Rm, Rmdir, Mv, Write, Fill, Trunc}
 use Rattle.ck_model.specs.declared.reply.Reply.{Reply}
 use Rattle.ck_model.specs.declared.reply.Reply.TheVariants.{IsDir, NotEmpty, Root, TooBig, Spent}
-use Rattle.ck_model.specs.Key.{key_cmp, key_cmp_total, key_cmp_exact, is_of, is_past}
+use Rattle.ck_model.specs.Key.{key_cmp_total, key_cmp_exact, is_of, is_past}
 use Rattle.ck_model.specs.Refusals.{and_then, refuse_if}
 use Rattle.ck_model.specs.Cells.{Cells, size_at, with_cells}
 use Rattle.ck_model.specs.Walk.{file_at, directory_at, name_at, new_name_at}

@@ -32,19 +32,6 @@ deletes (Put key small) stamp h = cc
 deletes (Write number index block) stamp h = cc
 deletes (Del key) stamp h = refl
 
--- room for the growth is room for the entries
-pub room_of_growth : (t : Table) (change : Change) (stamp : ℕ) → growth t change ≤ spare_count t → (is_deletion change ≡ true → IsSome (column t (key_of change) 0))
-    → MatchOption (value_after change stamp) (IsSome (column t (key_of change) 0)) (λ held. one_if (is_some (push_of t (key_of change))) + one_if (not (is_some (column t (key_of change) 0))) ≤ spare_count t)
-room_of_growth t (Put key small) stamp room there = omega arith
-room_of_growth t (Write number index block) stamp room there = omega arith
-room_of_growth t (Del key) stamp room there = there refl
-
--- the key is one that a table may have
-pub key_place : (t : Table) (change : Change) (stamp : ℕ) → IsTable t → (is_deletion change ≡ true → IsSome (column t (key_of change) 0)) → IfSome (value_after change stamp) (IsEntry (key_of change)) → IsKey (key_of change)
-key_place t (Put key small) stamp lawful there entry = entry.place
-key_place t (Write number index block) stamp lawful there entry = entry.place
-key_place t (Del key) stamp lawful there entry = let found = some_is (column t key 0) (there refl) in (lawful.entries 0 key found.0 found.1).1.place
-
 -- and its numbers were given
 pub key_below : (t : Table) (change : Change) (stamp : ℕ) → IsOrderly t → (is_deletion change ≡ true → IsSome (column t (key_of change) 0))
     → IfSome (value_after change stamp) (λ held. KeyBelow t.counters.number (key_of change) × HeldBelow t.counters.number held) → KeyBelow t.counters.number (key_of change)

@@ -3,7 +3,7 @@ pub mod StandingLemmas
 pub mod ListingLemmas
 pub mod ChildrenLemmas
 pub mod RemovingLemmas
-pub mod PathLaws
+pub mod PathLemmas
 pub mod DeletionLemmas
 pub mod ResizingLemmas
 pub mod WritingLemmas

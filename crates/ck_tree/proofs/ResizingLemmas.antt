@@ -35,10 +35,6 @@ with_changes-append bytes stamp cells (Put key small ∷ xs) ys = with_changes-a
 with_changes-append bytes stamp cells (Write node index block ∷ xs) ys = with_changes-append bytes stamp (map.insert cells (Block node index) _) xs ys
 with_changes-append bytes stamp cells (Del key ∷ xs) ys = with_changes-append bytes stamp (map.remove cells key) xs ys
 
-pub deletions_then : (keys : List Key) (ys : List Change) → deletions_first ys ≡ true → deletions_first (deletions keys ++ ys) ≡ true
-deletions_then [] ys h = h
-deletions_then (key ∷ keys) ys h = deletions_then keys ys h
-
 -- one more change, of another key
 pub differ-push : (xs : List Change) (x : Change) → Differ xs → All (λ other. key_of other ≢ key_of x) xs → Differ (xs ++ x ∷ [])
 differ-push [] x differ apart = (All-nil (λ (other : Change). key_of other ≢ key_of x), tt)

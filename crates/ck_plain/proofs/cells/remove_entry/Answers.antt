@@ -1,4 +1,3 @@
-use Rattle.std.proofs.Common.{get_or}
 use Rattle.ck_model.specs.Key.{key_cmp_total, key_cmp_exact}
 use Rattle.ck_model.proofs.PlaceLaws.{unset_found, unset_gap}
 use Rattle.ck_plain.proofs.cells.remove_entry.Goals as goal

@@ -5,7 +5,7 @@ use Rattle.ck_model.specs.Key.{key_cmp}
 use Rattle.ck_stream.specs.declared.item.Item.{Item}
 use Rattle.ck_stream.specs.Right.{change_of, IsItem}
 use Rattle.ck_stream.specs.ByKey.{records, held_at}
-use Rattle.ck_stream.proofs.ByKeyLaws.{held_set, each_put, each_left}
+use Rattle.ck_stream.proofs.ByKeyLemmas.{held_set, each_put, each_left}
 use Rattle.ck_stream.proofs.base.set.Goals as goal
 
 pub returns-in_ok-insert-in-Put-clause-held : goal.returns-in_ok-insert-in-Put-clause-held

@@ -6,7 +6,7 @@ use Rattle.ck_model.specs.Key.{key_cmp}
 use Rattle.ck_stream.specs.declared.item.Item.{Item}
 use Rattle.ck_stream.specs.Right.{AreItems, changes}
 use Rattle.ck_stream.specs.ByKey.{records, held_at}
-use Rattle.ck_stream.proofs.ByKeyLaws.{right_rest, one_change, applied_is, sorted_records, nothing_left}
+use Rattle.ck_stream.proofs.ByKeyLemmas.{right_rest, one_change, applied_is, sorted_records, nothing_left}
 use Rattle.ck_stream.proofs.base.set_all.Goals as goal
 
 pub loop-change-preserved : goal.loop-change-preserved

@@ -1,4 +1,4 @@
-use Rattle.std.proofs.Common.{sym, ap, ◌∙◌}
+use Rattle.std.proofs.Common.{ap, ◌∙◌}
 use Rattle.std.specs.FinMap as map
 use Rattle.ck_model.specs.Key.{key_cmp}
 use Rattle.ck_model.proofs.PlaceLaws.{from_nothing}

@@ -2,7 +2,7 @@ use Rattle.std.proofs.Common.{subst, sym, arith}
 use Rattle.std.specs.List.{AllByRecursion}
 use Rattle.std.proofs.lemmas.List.{length-map}
 use Rattle.ck_stream.specs.Right.{IsItem}
-use Rattle.ck_stream.proofs.ByKeyLaws.{puts_records}
+use Rattle.ck_stream.proofs.ByKeyLemmas.{puts_records}
 use Rattle.ck_stream.proofs.base.Base.later.Goals as goal
 
 pub returns-clause-right : goal.returns-clause-right

@@ -2,7 +2,7 @@ use Rattle.std.proofs.Common.{◌∙◌}
 use Rattle.ck_model.specs.Streams.{applied}
 use Rattle.ck_stream.specs.Right.{contents, changes}
 use Rattle.ck_stream.specs.ByKey.{records}
-use Rattle.ck_stream.proofs.ByKeyLaws.{all_put}
+use Rattle.ck_stream.proofs.ByKeyLemmas.{all_put}
 use Rattle.ck_stream.proofs.base.Base.of.Goals as goal
 
 pub returns : goal.returns

@@ -16,8 +16,8 @@ use Rattle.ck_stream.specs.Reading.{◌>>=◌, located, header_at, items_at, end
 use Rattle.ck_stream.specs.Right.{key_of}
 use Rattle.ck_stream.specs.SeenKey.{keyed}
 use Rattle.ck_stream.specs.Seen.{summary_of, TellsOf, seen, counted, seen_at}
-use Rattle.ck_stream.proofs.FieldLaws.{IsBytes, ok_is}
-use Rattle.ck_stream.proofs.StreamLaws.{stream_takes}
+use Rattle.ck_stream.proofs.FieldLemmas.{IsBytes, ok_is}
+use Rattle.ck_stream.proofs.StreamLemmas.{stream_takes}
 
 summary_made : (h : Header) (items : List Item) → summary_of (made h items) ≡ record { header = h; records = length items }
 summary_made (header.Full id) items = refl

@@ -24,7 +24,7 @@ use Rattle.ck_stream.specs.declared.item.Item.{Item}
 use Rattle.ck_stream.specs.declared.item.Item.TheVariants.{Put, Removed}
 use Rattle.ck_stream.specs.Right.{change_of, changes, contents, IsItem, IsPut, AreItems}
 use Rattle.ck_stream.specs.ByKey.{records, held_at}
-use Rattle.ck_stream.proofs.ItemsLaws.{split}
+use Rattle.ck_stream.proofs.ItemsLemmas.{split}
 
 both : (a b : Bool) → a ≡ true → b ≡ true → (a && b) ≡ true
 both a b p q = rw (p, q) refl
