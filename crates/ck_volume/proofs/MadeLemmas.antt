@@ -9,6 +9,7 @@ use Rattle.ck_chain.specs.Naming.{block_of, IsNamed}
 use Rattle.ck_chain.specs.Changes.{deletions_first, is_deletion, key_of, value_after}
 use Rattle.ck_push.specs.Changed.{changed}
 use Rattle.ck_push.specs.Growth.{gain, loss, gains, losses, growth, one_if, absent_goes}
+use Rattle.ck_push.proofs.RoomLaws.{room_after}
 use Rattle.ck_alloc.specs.Blocks.{Allocation}
 use Rattle.ck_volume.specs.Plain.{IsOurs}
 use Rattle.ck_volume.specs.Allocating.{is_named, is_taken, AreUnnamed, IsAllocatedBut, blocks_held}
@@ -28,20 +29,6 @@ pub record MayMake (t : Table) (blocks : Allocation) (items : List Change) (stam
 both : (a b : Bool) → (a && b) ≡ true → (a ≡ true) × (b ≡ true)
 both true b h = (refl, h)
 both false b h = cc
-
--- and the others have room then
-room_after : (t u : Table) (item : Change) (items : List Change) → deletions_first (item ∷ items) ≡ true → gains t (item ∷ items) - losses t (item ∷ items) ≤ spare_count t
-    → record_count t ≤ t.records → record_count u ≤ u.records → u.records ≡ t.records → record_count u + loss t item ≡ record_count t + gain t item
-    → gains u items ≡ gains t items → losses u items ≡ losses t items → gains u items - losses u items ≤ spare_count u
-room_after t u item items first room fits fits_after limit counted same_gains same_losses =
-    elim (is_deletion item) as (λ b. is_deletion item ≡ b → gains u items - losses u items ≤ spare_count u) [
-      | true ↦ λ is. let less : gain t item - loss t item ≡ 0 = deletion_grows t item is in omega (arith, room, fits, fits_after, limit, counted, same_gains, same_losses, less)
-      | false ↦ λ is.
-          let left : not (list_any is_deletion items) ≡ true = sym (ap (λ b. b || not (list_any is_deletion items)) is) ∙ (both (is_deletion item || not (list_any is_deletion items)) (deletions_first items) first).0 in
-          let none = no_losses t items (not_true (list_any is_deletion items) left) in
-          let here = no_loss t item is in
-          omega (arith, room, fits, fits_after, limit, counted, same_gains, same_losses, none, here)
-    ] refl
 
 -- no entry names a block that they write
 unnamed_block : (t : Table) (item : Change) (stamp : ℕ) → MayChange t item stamp → (block : ℕ) → is_taken (blocks_held (value_after item stamp)) block ≡ true → is_named t block ≡ false

@@ -23,7 +23,7 @@ use Rattle.ck_model.proofs.ValueLaws.{get-values_of, get-cells_on}
 use Rattle.ck_chain.specs.Changes.{key_of, value_after}
 use Rattle.ck_chain.proofs.ColumnLaws.{same_or_other}
 use Rattle.ck_push.specs.Changed.{changed}
-use Rattle.ck_push.proofs.ChangeLaws.{others_stay, primary_changed, changed_reads, lawful_after, sound_after, may_all_after}
+use Rattle.ck_push.proofs.ChangeLaws.{changed_reads, primary_changed, others_stay, lawful_after, sound_after, may_all_after}
 use Rattle.ck_volume.specs.Plain.{IsPlain}
 use Rattle.ck_volume.specs.Changing.{with_changes}
 use Rattle.ck_push.specs.Changes.{MayChangeAll, changed_all}

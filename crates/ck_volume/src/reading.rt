@@ -15,12 +15,9 @@ ghost use Rattle.ck_disk.specs.Runs.{OnlyReads};
 use crate::fault::Fault;
 use ck_chain::value;
 use ck_disk::{Block, Disk};
-use ck_model::{Held, Key, Meta};
+use ck_model::{BLOCK, Held, Key, Meta};
 use ck_tree::size_at;
 use std::alloc::Global;
-
-/// The bytes of a block.
-pub const BLOCK: u64 = 4096;
 
 /// Where the data blocks stand: for n below `blocks`, data block n is the device's `base` + n.
 #[derive(Clone, Copy, Debug, PartialEq, Eq)]
