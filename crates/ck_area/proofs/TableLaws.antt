@@ -13,6 +13,7 @@ use Rattle.ck_model.specs.Key.{entry_cmp_total, entry_cmp_exact}
 use Rattle.ck_model.specs.Held.{IsWord, IsEntry, IsCounters, IsFileset}
 use Rattle.ck_model.specs.Table.{IsTable, IsSized, record_count}
 use Rattle.ck_model.specs.Rules.{IsSound}
+use Rattle.ck_model.proofs.SizeLaws.{len-from_entries-le}
 use Rattle.ck_record.specs.declared.records.Record.{Record}
 use Rattle.ck_record.specs.declared.records.Record.TheVariants.{Free, Counters as CountersRecord, Fileset as FilesetRecord, Entry}
 use Rattle.ck_record.specs.Record.{IsRecord}
@@ -21,7 +22,6 @@ use Rattle.ck_area.specs.Damage.{damage}
 use Rattle.ck_area.proofs.Fronts.{Among}
 use Rattle.ck_area.proofs.SlotsLemmas.{all_fine, entries_fine, filesets_fine, count_fine}
 use Rattle.ck_area.proofs.UndamagedLemmas.{entry_among, fileset_among, sound}
-use Rattle.ck_model.proofs.SizeLaws.{len-from_entries-le}
 
 all_at : {X : Type 0} (P : X → Type 0) (d : X) (xs : List X) → ((i : ℕ) → i < length xs → P (get_or xs i d)) → AllByRecursion P xs
 all_at P d [] at = tt

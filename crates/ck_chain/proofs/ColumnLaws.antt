@@ -8,8 +8,8 @@ use Rattle.std.proofs.lemmas.Cmp.{tied_itself}
 use Rattle.std.specs.FinMap.{get-insert, get-remove, same_map}
 use Rattle.std.specs.FinMap as map
 use Rattle.ck_model.specs.declared.key.Key.{Key}
-use Rattle.ck_model.specs.Key.{key_cmp, entry_cmp, key_cmp_total, key_cmp_exact, entry_cmp_total, entry_cmp_exact}
 use Rattle.ck_model.specs.declared.held.Held.{Held}
+use Rattle.ck_model.specs.Key.{key_cmp, entry_cmp, key_cmp_total, key_cmp_exact, entry_cmp_total, entry_cmp_exact}
 use Rattle.ck_model.specs.Table.{Table, Entries, column, with_entry}
 
 -- the test of two entries' keys, by their filesets and by their keys

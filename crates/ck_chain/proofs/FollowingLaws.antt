@@ -11,13 +11,13 @@ use Rattle.ck_model.specs.declared.key.Key.{Key}
 use Rattle.ck_model.specs.declared.held.Held.{Held}
 use Rattle.ck_model.specs.Key.{key_cmp, key_cmp_total, key_cmp_exact}
 use Rattle.ck_model.specs.Table.{Table, column, keys_in, keys_after}
-use Rattle.ck_model.proofs.CellLaws.{tied-is}
 use Rattle.ck_model.specs.Standing.{is_among}
-use Rattle.ck_model.proofs.RowLaws.{find-row_of}
 use Rattle.ck_model.specs.Rows.{row, row_of}
+use Rattle.ck_model.proofs.CellLaws.{tied-is}
+use Rattle.ck_model.proofs.RowLaws.{find-row_of}
+use Rattle.ck_model.proofs.CaseLaws.{true_or_false}
 use Rattle.ck_chain.specs.Following.{is_after, is_before, IsNext, is_behind}
 use Rattle.ck_chain.proofs.KeyOrderLaws.{behind-itself, behind-once, after-trans, same_or_before}
-use Rattle.ck_model.proofs.CaseLaws.{true_or_false}
 
 one_of : (a b : Bool) → (a || b) ≡ true → (a ≡ true) ⊎ (b ≡ true)
 one_of true b h = inl refl

@@ -12,8 +12,8 @@ use Rattle.ck_model.specs.declared.held.Held.TheVariants.{Absent, Plain, Extent,
 use Rattle.ck_model.specs.Table.{Table, newer, column, with_entry, written}
 use Rattle.ck_model.specs.Chain.{first_entry, present, is_live, is_gone, newest_live_of}
 use Rattle.ck_model.specs.Rules.{first_holder, IsNeeded, IsOrderly}
-use Rattle.ck_chain.specs.Needless.{is_absent, says_nothing, is_needless, tidied, Says, FirstAbove, in_between}
 use Rattle.ck_model.proofs.CaseLaws.{and_left, and_right, not_false}
+use Rattle.ck_chain.specs.Needless.{is_absent, says_nothing, is_needless, tidied, Says, FirstAbove, in_between}
 use Rattle.ck_chain.proofs.NewerLaws.{newer_split}
 use Rattle.ck_chain.proofs.ColumnLaws.{column-with_entry, column-with_entry_other, same_or_other}
 use Rattle.ck_chain.proofs.ReadLaws.{each_above, live_stands, newest_at_least}

@@ -1,5 +1,5 @@
 -- How many keys of a table are left behind a key.
-use Rattle.std.proofs.Common.{◌≡◌, ℕ, suc, ◌<◌, ◌≤◌, true, false, cond, ◌||◌, Option, Some, None, IfSome, is_some, List, [], ◌∷◌, filter, length, refl, sym, ap, subst, ◌∙◌, arith}
+use Rattle.std.proofs.Common.{◌≡◌, ◌<◌, ◌≤◌, true, false, cond, ◌||◌, Option, Some, None, IfSome, is_some, List, [], ◌∷◌, filter, length, refl, sym, ap, subst, ◌∙◌, arith}
 use Rattle.std.specs.Ordering.{eq_by_cmp}
 use Rattle.std.specs.FinMap as map
 use mathlib.Core.Bool.{false≢true}

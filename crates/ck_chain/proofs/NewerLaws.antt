@@ -1,5 +1,5 @@
 -- The ids of newer filesets, split at one of them.
-use Rattle.std.proofs.Common.{◌≡◌, ℕ, ◌<◌, ◌≤◌, Bool, false, cond, T, ◌&&◌, IsSome, List, [], ◌∷◌, ◌++◌, map, filter, Some, None, nat_lt, refl, subst, arith, inl, inr}
+use Rattle.std.proofs.Common.{◌≡◌, ℕ, ◌<◌, ◌≤◌, Bool, false, cond, T, ◌&&◌, IsSome, List, [], ◌∷◌, ◌++◌, map, filter, Some, None, refl, subst, arith, inl, inr}
 use Rattle.std.specs.Ordering.{nat_cmp, is_lt, eq_by_cmp}
 use Rattle.std.specs.FinMap.{is_sorted, entries_sorted, find}
 use Rattle.std.specs.FinMap.Entries.{below_all}

@@ -9,8 +9,8 @@ use Rattle.ck_model.specs.Table.{Table, IsTable, column, with_entry}
 use Rattle.ck_model.specs.Chain.{keeps_data}
 use Rattle.ck_model.specs.Rules.{IsOrderly, IsOwn, KeyBelow, HeldBelow, stamp_in, block_in}
 use Rattle.ck_model.proofs.CaseLaws.{some_is, some_same}
-use Rattle.ck_chain.proofs.ColumnLaws.{column-with_entry, column-with_entry_other, same_or_other}
 use Rattle.ck_chain.specs.Fits.{Fits}
+use Rattle.ck_chain.proofs.ColumnLaws.{column-with_entry, column-with_entry_other, same_or_other}
 
 -- the ids of filesets are at least 1
 pub positive_id : (t : Table) (id : ℕ) → IsTable t → IsSome (map.get t.filesets id) → 1 ≤ id

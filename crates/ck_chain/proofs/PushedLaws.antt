@@ -10,11 +10,11 @@ use Rattle.ck_model.specs.Table.{Table, column, with_entry}
 use Rattle.ck_model.specs.Held.{IsEntry, BelongsTo}
 use Rattle.ck_model.specs.Chain.{keeps_data, as_mark}
 use Rattle.ck_model.specs.Rules.{IsOrderly, KeyBelow, HeldBelow, stamp_in, block_in}
-use Rattle.ck_chain.specs.Kept.{pushed}
 use Rattle.ck_model.proofs.CaseLaws.{none_some}
+use Rattle.ck_chain.specs.Kept.{pushed}
+use Rattle.ck_chain.specs.Fits.{Fits}
 use Rattle.ck_chain.proofs.ColumnLaws.{column-with_entry}
 use Rattle.ck_chain.proofs.OrderlyLaws.{still_stood}
-use Rattle.ck_chain.specs.Fits.{Fits}
 
 -- an entry and its mark are of one version
 pub stamp_pushed : (keeps : Bool) (held : Held) → stamp_in (pushed keeps (Some held)) ≡ stamp_in held

@@ -12,8 +12,8 @@ use Rattle.ck_model.specs.declared.held.Held.TheVariants.{Absent, Plain, Extent,
 use Rattle.ck_model.specs.Table.{Table, newer, column, with_entry}
 use Rattle.ck_model.specs.Chain.{first_entry, present, keeps_data, as_mark, seen, is_live, last_of, newest_live_of}
 use Rattle.ck_chain.specs.Kept.{pushed, read_as}
-use Rattle.ck_chain.proofs.NewerLaws.{newer_split}
 use Rattle.ck_chain.specs.Needless.{in_between}
+use Rattle.ck_chain.proofs.NewerLaws.{newer_split}
 use Rattle.ck_chain.proofs.ColumnLaws.{column-with_entry, column-with_entry_other, same_or_other}
 
 -- filesets before the changed one answer alike, if the rest does

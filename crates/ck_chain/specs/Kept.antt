@@ -1,9 +1,9 @@
 -- What a checkpoint takes over of an entry that a newer fileset gives up.
 use Rattle.std.specs.Prelude.{Bool, Option, Some, None, if◌then◌else◌}
+use Rattle.std.specs.Option.{option_map}
 use Rattle.ck_model.specs.declared.held.Held.{Held}
 use Rattle.ck_model.specs.declared.held.Held.TheVariants.{Absent}
 use Rattle.ck_model.specs.Chain.{as_mark, present}
-use Rattle.std.specs.Option.{option_map}
 
 -- an absent where there was no entry, and a mark in place of a data block where no data is kept
 abbrev pub pushed : Bool → Option Held → Held

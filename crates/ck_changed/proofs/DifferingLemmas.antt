@@ -8,8 +8,8 @@ use Rattle.ck_model.specs.declared.key.Key.{Key}
 use Rattle.ck_model.specs.declared.held.Held.{Held}
 use Rattle.ck_model.specs.Table.{Table, newer, column}
 use Rattle.ck_model.specs.Chain.{first_entry, present, value_of}
-use Rattle.ck_chain.proofs.NewerLaws.{newer_split}
 use Rattle.ck_chain.specs.Needless.{in_between}
+use Rattle.ck_chain.proofs.NewerLaws.{newer_split}
 use Rattle.ck_changed.specs.Differing.{values_differ, EntryBetween}
 
 -- ---- the test

@@ -21,11 +21,11 @@ use Rattle.ck_model.specs.Streams.{changed}
 use Rattle.ck_model.proofs.CaseLaws.{both_of}
 use Rattle.ck_model.proofs.ValueLaws.{get-values_of, get-cells_on}
 use Rattle.ck_model.proofs.StreamLaws.{find-changed, is_sorted-changed}
-use Rattle.ck_chain.proofs.ColumnLaws.{same_or_other}
 use Rattle.ck_chain.specs.Following.{is_after, is_before, is_behind}
+use Rattle.ck_chain.proofs.ColumnLaws.{same_or_other}
+use Rattle.ck_chain.proofs.KeyOrderLaws.{after-trans, same_or_before}
 use Rattle.ck_changed.specs.Differing.{version, values_differ, value_from, differs_at, IsNextDifference}
 use Rattle.ck_changed.specs.Turning.{cells_from, content_on, rest_after}
-use Rattle.ck_chain.proofs.KeyOrderLaws.{after-trans, same_or_before}
 
 of_true : (b : Bool) → b ≡ true → T b
 of_true true h = tt

@@ -2,6 +2,7 @@
 use Rattle.std.specs.Prelude.{ℕ, List, [], ◌∷◌, ◌++◌, length, Result, Ok, Err, nat_lt, if◌then◌else◌, codes}
 use Rattle.std.specs.Fmt.{decimal}
 use Rattle.hex.specs.Hex.{encode_lower}
+use Rattle.ck_model.specs.Limits.{input_limit}
 use Rattle.ck_stream.specs.declared.fault.StreamFault.{StreamFault}
 use Rattle.ck_stream.specs.declared.fault.StreamFault.TheVariants as fault
 use Rattle.ck_stream.specs.declared.stream.Stream.{Stream}
@@ -16,7 +17,6 @@ use Rattle.ck_image.specs.declared.refusal.Refusal.TheVariants as refusal
 use Rattle.ck_image.specs.declared.command.Command.{Command}
 use Rattle.ck_image.specs.declared.command.Command.TheVariants.{Verify, Apply}
 use Rattle.ck_image.specs.Images.{whole_in, applied_in}
-use Rattle.ck_model.specs.Limits.{input_limit}
 
 -- a space, and a number or bytes in hexadecimal
 abbrev pub number_words : ℕ → List ℕ

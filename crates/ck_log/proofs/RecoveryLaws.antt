@@ -5,13 +5,13 @@ use Rattle.std.proofs.lemmas.Nat.{from_be_bytes-to_be_bytes_4}
 use Rattle.std.proofs.lemmas.List.{length-set}
 use Rattle.std.proofs.lemmas.Bool.Decides.{nat_tests}
 use Rattle.ck_disk.specs.Disk.{Image, Meaning, Lawful, Agrees, Within}
+use Rattle.ck_log.specs.declared.faults.OpenLog.{OpenLog}
+use Rattle.ck_log.specs.declared.faults.OpenLog.TheVariants as open_log
+use Rattle.ck_log.specs.declared.header.Sizes.{Sizes}
 use Rattle.ck_log.specs.Layout.{Layout, IsSized, is_sized, table_blocks, area_at, base_of, size_of}
 use Rattle.ck_log.specs.Header.{Recovered, NotVolume, BadFormat, Opens, magic, header_of, number_at, sized_volume, recovered_by}
 use Rattle.ck_log.specs.Images.{names_second, recovered_region, table_on, area_of, HasTable, Settled}
 use Rattle.ck_log.specs.Faults.{IsRefusal, IsOpenFault}
-use Rattle.ck_log.specs.declared.faults.OpenLog.{OpenLog}
-use Rattle.ck_log.specs.declared.faults.OpenLog.TheVariants as open_log
-use Rattle.ck_log.specs.declared.header.Sizes.{Sizes}
 use Rattle.ck_log.proofs.Parts.{part_agrees}
 use Rattle.ck_log.proofs.AreaLaws.{area_low, area_high, table_at}
 use Rattle.ck_log.proofs.Phases.{same_gate}

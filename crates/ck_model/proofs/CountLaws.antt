@@ -29,15 +29,15 @@ use Rattle.ck_model.specs.Chain.{first_entry, present, value_of, value_at, is_li
 use Rattle.ck_model.specs.Rules.{IsSound, IsOwn, first_holder, stamp_in}
 use Rattle.ck_model.specs.Values.{Store, cell_on, cells_on}
 use Rattle.ck_model.specs.Standing.{values_of, checkpoint_on, live_filesets, checkpoints_on, world_on, blocks_in, blocks_of, extent_count}
+use Rattle.ck_model.specs.Rows.{row_of, total, times}
+use Rattle.ck_model.specs.Placed.{Follow, NoneGone, ArePlaced, AllStripped}
 use Rattle.ck_model.proofs.CellLaws.{get-marked, differs-mark_of, differs-itself, contains_key-differences}
 use Rattle.ck_model.proofs.DifferenceLaws.{differs_from_mark}
 use Rattle.ck_model.proofs.SizeLaws.{len_same_keys, len-retain_keys, contains_key-retain_keys}
 use Rattle.ck_model.proofs.ValueLaws.{get-values_of, get-cells_on}
 use Rattle.ck_model.proofs.RowLaws.{find-row_of, is_sorted-row_of, total-rows}
 use Rattle.ck_model.proofs.CaseLaws.{head_of}
-use Rattle.ck_model.specs.Rows.{row_of, total, times}
 use Rattle.ck_model.proofs.FilesetLaws.{follow_newer, all_found, times-none, times-once}
-use Rattle.ck_model.specs.Placed.{Follow, NoneGone, ArePlaced, AllStripped}
 
 -- ---- one fileset's entries
 

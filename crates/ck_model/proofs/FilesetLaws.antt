@@ -1,6 +1,5 @@
 -- The checkpoints of a table in their order: of each, the newer ones, and how often an id stands among them.
-use Rattle.std.proofs.Common.{◌≡◌, ℕ, ◌+◌, ◌<◌, ◌≤◌, Bool, true, false, cond, T, ◌&&◌, IsSome, is_some, if◌then◌else◌, List, [], ◌∷◌, map as list_map, filter, Option, Some, None, nat_lt, nat_eq, refl, sym, ap, subst, ◌∙◌, ◌⊎◌, inl, inr, arith}
-use Rattle.std.specs.Bool.{⊤}
+use Rattle.std.proofs.Common.{◌≡◌, ℕ, ◌+◌, ◌<◌, ◌≤◌, Bool, true, false, cond, T, ◌&&◌, IsSome, is_some, if◌then◌else◌, List, [], ◌∷◌, map as list_map, Option, Some, None, nat_lt, nat_eq, refl, sym, ap, subst, ◌∙◌, ◌⊎◌, inl, inr, arith}
 use Rattle.std.specs.declared.cmp.Ordering.{Ordering}
 use Rattle.std.specs.declared.cmp.Ordering.TheVariants.{Less, Equal, Greater}
 use Rattle.std.specs.Ordering.{nat_cmp, is_lt, is_eq, eq_by_cmp}
@@ -13,9 +12,9 @@ use Rattle.std.proofs.lemmas.Bool.Decides.{nat_tests}
 use Rattle.std.proofs.lemmas.Cmp.{tied_itself, nat_cmp_total}
 use mathlib.Core.Bool.{false≢true}
 use Rattle.ck_model.specs.Table.{Table, newer}
-use Rattle.ck_model.proofs.CaseLaws.{head_of}
 use Rattle.ck_model.specs.Rows.{times}
 use Rattle.ck_model.specs.Placed.{above, Follow}
+use Rattle.ck_model.proofs.CaseLaws.{head_of}
 
 below_head : (x y : ℕ) (b : Bool) → T (is_lt (nat_cmp x y) && b) → (x < y) × T b
 below_head x y b h = grind (arith, nat_tests)

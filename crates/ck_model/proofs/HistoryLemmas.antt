@@ -1,7 +1,6 @@
 -- What a legal entry makes of the checkpoints, and histories behind one another.
-use Rattle.std.proofs.Common.{◌≡◌, ◌≤◌, ℕ, ◌+◌, true, false, None, Some, IsSomeAnd, MatchOption, MatchBool, List, [], ◌∷◌, ◌++◌, length, nat_eq, nat_le, refl, sym, ap, ◌∙◌, subst, add-zero, arith, if◌then◌else◌}
+use Rattle.std.proofs.Common.{◌≡◌, ◌≤◌, ℕ, true, false, None, Some, IsSomeAnd, MatchOption, MatchBool, refl, sym, ap, ◌∙◌, subst, if◌then◌else◌}
 use Rattle.std.specs.Option.{option_map_or}
-use Rattle.std.proofs.lemmas.Bool.Decides.{nat_tests}
 use Rattle.ck_model.specs.declared.call.Call.{Call}
 use Rattle.ck_model.specs.declared.entry.Entry.{Entry}
 use Rattle.ck_model.specs.declared.reply.Reply.{Reply}
@@ -10,7 +9,7 @@ use Rattle.ck_model.specs.World.{World}
 use Rattle.ck_model.specs.Space.{without_picks}
 use Rattle.ck_model.specs.Streams.{Texts}
 use Rattle.ck_model.specs.Step.{step}
-use Rattle.ck_model.specs.History.{Past, CallsBy, IsStepOf, IsLegalAt, IsLegalWhole, IsRefusal, IsLegalNext, is_fault, is_broken, reply_number, created_id, world_after, past_after, past_of, IsLegalFrom}
+use Rattle.ck_model.specs.History.{Past, CallsBy, IsStepOf, IsLegalAt, IsLegalWhole, IsRefusal, IsLegalNext, is_fault, created_id, world_after, past_after}
 use Rattle.ck_model.proofs.SpaceLemmas.{without_picks-adds}
 use Rattle.ck_model.proofs.StepLemmas.{Adds, step-sound}
 

@@ -4,12 +4,11 @@ use Rattle.std.specs.List.{AllByRecursion}
 use Rattle.std.specs.Option.{option_or, option_map_or}
 use Rattle.std.proofs.lemmas.Option.{none-some}
 use Rattle.ck_model.specs.declared.entry.Entry.{Entry}
-use Rattle.ck_model.specs.declared.checkpoint.Limits.{Limits}
 use Rattle.ck_model.specs.Cells.{Cells}
-use Rattle.ck_model.specs.World.{World, Checkpoint, empty_world, has_id, shown_by}
+use Rattle.ck_model.specs.World.{World, Checkpoint, has_id, shown_by}
 use Rattle.ck_model.specs.Streams.{Texts}
-use Rattle.ck_model.specs.History.{Past, CallsBy, begun, created_id, past_after, past_of, IsLegalFrom, IsLegal, state}
-use Rattle.ck_model.specs.Laws.{IdsRise, IsWorld, frozen_from, frozen, FrozenMapsStay, WorldsStay}
+use Rattle.ck_model.specs.History.{Past, CallsBy, begun, created_id, past_after, past_of, IsLegalFrom}
+use Rattle.ck_model.specs.Laws.{IdsRise, IsWorld, frozen_from, FrozenMapsStay, WorldsStay}
 use Rattle.ck_model.proofs.WorldLemmas.{IsLater, Remain-itself, All-remain, All-append, IdsRise-remain, IdsRise-append, shown_again}
 use Rattle.ck_model.proofs.StepLemmas.{Adds}
 use Rattle.ck_model.proofs.HistoryLemmas.{past_after-adds}

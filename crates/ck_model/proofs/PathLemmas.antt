@@ -4,7 +4,7 @@ use Rattle.std.proofs.lemmas.Bool.{cases_lt}
 use Rattle.std.proofs.lemmas.List.{get_or-drop, get_or_default, get_or_past, take-append-drop, append-nil, append_assoc, append_cancel_left}
 use Rattle.std.proofs.lemmas.List.Elements.{All-head, All-tail, All-weaker, All-push}
 use Rattle.ck_model.specs.Name.{IsNameByte, IsFileName}
-use Rattle.ck_model.specs.Path.{IsPath, joined, path_text}
+use Rattle.ck_model.specs.Path.{joined, path_text}
 
 -- the list has a slash nowhere
 pub record HasNoSlash (bytes : List ℕ) : Type 0 where

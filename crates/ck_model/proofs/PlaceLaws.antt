@@ -8,9 +8,8 @@ use Rattle.std.specs.Cmp.{IsTotalOrder}
 use Rattle.std.specs.FinMap.{IsAntisymmetric, find, put, is_sorted}
 use Rattle.std.specs.FinMap.Entries.{by_order, below_all, where_key, is_sorted-put, is_sorted-where_key, find-where_key}
 use Rattle.std.specs.FinMap as map
-use Rattle.std.proofs.lemmas.Cmp.{eq_by_cmp_equiv}
+use Rattle.std.proofs.lemmas.Cmp.{eq_by_cmp_equiv, tied_itself}
 use Rattle.std.proofs.lemmas.List.{nil_from_length}
-use Rattle.std.proofs.lemmas.Cmp.{tied_itself}
 use Rattle.ck_model.specs.Ordered.{place_of, IsFoundAt, IsGapAt, Edits}
 
 head_of : (a b : Bool) → T (a && b) → T a × T b

@@ -1,9 +1,8 @@
 -- Which replies a refusal can be.
-use Rattle.std.proofs.Common.{◌≡◌, Bool, true, false, Option, None, Some, Result, Ok, Err, MatchResult, ok_or}
+use Rattle.std.proofs.Common.{Bool, true, false, Option, None, Some, Result, Ok, Err, ok_or}
 use Rattle.std.specs.Prelude.{⊤}
 use Rattle.ck_model.specs.declared.reply.Reply.{Reply}
 use Rattle.ck_model.specs.Refusals.{and_then, refuse_if}
-use Rattle.ck_model.specs.History.{is_fault, created_id}
 use Rattle.ck_model.specs.Ordinary.{IsOrdinary, OrOrdinary, Refuses}
 
 pub and_then-given : {A B : Type 0} (Q : A → Type 0) (P : B → Type 0) (r : Result A Reply) (next : A → Result B Reply) → OrOrdinary Q r → ((x : A) → Q x → OrOrdinary P (next x)) → OrOrdinary P (and_then r next)

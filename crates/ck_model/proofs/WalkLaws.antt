@@ -8,8 +8,8 @@ use Rattle.ck_model.specs.declared.reply.Reply.TheVariants.{IsDir, NotDir, Exist
 use Rattle.ck_model.specs.Refusals.{or_refused}
 use Rattle.ck_model.specs.Cells.{Cells, is_directory_at}
 use Rattle.ck_model.specs.Walk.{walk, node_at, file_at, directory_at, name_at, new_name_at}
-use Rattle.ck_model.proofs.RefusalsLemmas.{and_then-ordinary, refuse_if-ordinary}
 use Rattle.ck_model.specs.Ordinary.{IsOrdinary, Refuses}
+use Rattle.ck_model.proofs.RefusalsLemmas.{and_then-ordinary, refuse_if-ordinary}
 
 or_refused-ordinary : {A : Type 0} (r : Result A WalkFault) → Refuses (or_refused r)
 or_refused-ordinary (Ok x) = tt

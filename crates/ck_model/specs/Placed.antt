@@ -1,11 +1,11 @@
 -- The checkpoints of a table in their order.
 use Rattle.std.specs.Prelude.{◌≡◌, ℕ, List, [], ◌∷◌, map as list_map, filter, nat_lt, ◌≤◌, true, false, Some, ◌⊎◌}
 use Rattle.std.specs.Bool.{⊤}
-use Rattle.ck_model.specs.Table.{newer, Table, column}
 use Rattle.std.specs.FinMap as map
 use Rattle.ck_model.specs.declared.key.Key.{Key}
 use Rattle.ck_model.specs.declared.held.Held.TheVariants.{Extent}
 use Rattle.ck_model.specs.declared.checkpoint.Fileset.{Fileset}
+use Rattle.ck_model.specs.Table.{newer, Table, column}
 use Rattle.ck_model.specs.Chain.{keeps_data}
 
 -- the ids of these entries above a number

@@ -1,6 +1,8 @@
 -- The world that a table stands for over the data blocks of a device.
 use Rattle.std.specs.Prelude.{ℕ, not, List, [], ◌∷◌, ◌++◌, Option, Some, None, length, filter, map as list_map, Bool}
 use Rattle.std.specs.FinMap as map
+use Rattle.std.specs.Ordering.{eq_by_cmp}
+use Rattle.std.specs.List.{list_any}
 use Rattle.ck_model.specs.declared.key.Key.{Key}
 use Rattle.ck_model.specs.declared.held.Held.{Held}
 use Rattle.ck_model.specs.declared.held.Held.TheVariants.{Absent, Plain, Extent, Mark}
@@ -9,8 +11,6 @@ use Rattle.ck_model.specs.World.{World, Checkpoint, Mounts, shown_by}
 use Rattle.ck_model.specs.Table.{Table}
 use Rattle.ck_model.specs.Chain.{value_at}
 use Rattle.ck_model.specs.Values.{Store, Values, cells_on}
-use Rattle.std.specs.Ordering.{eq_by_cmp}
-use Rattle.std.specs.List.{list_any}
 use Rattle.ck_model.specs.Key.{key_cmp}
 use Rattle.ck_model.specs.Limits.{checkpoint_limit}
 

@@ -12,7 +12,7 @@ use crate::resizing::resized;
 use crate::walk::{directory_at, file_at, name_at, new_name_at};
 use crate::writing::written;
 use crate::{Plain, PlainMap};
-use ck_model::{FILE_LIMIT, Call, Cell, Counters, Key, NoMemory, Path, Payload, Reply};
+use ck_model::{Call, Cell, Counters, FILE_LIMIT, Key, NoMemory, Path, Payload, Reply};
 
 /// The primary map and the numbers after a call that changes files, where there is room.
 #[derive(Drop)]

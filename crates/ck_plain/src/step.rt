@@ -13,7 +13,7 @@ use crate::giving::{fits, give_up, no_space};
 use crate::reporting::{info_of, listing_of};
 use crate::room::Room;
 use crate::{Answer, Next, Plain, PlainMap, changed, names_listed, range_read, status_of};
-use ck_model::{FILE_LIMIT, Call, Cell, Counters, Key, Limits, Mounts, NoMemory, Payload, Reply};
+use ck_model::{Call, Cell, Counters, FILE_LIMIT, Key, Limits, Mounts, NoMemory, Payload, Reply};
 use std::alloc::Global;
 
 /// The plain program answers this call: its places and sizes are within the limit, and it asks for no stream.

@@ -7,31 +7,30 @@ use mathlib.Core.Bool.{false≢true}
 use Rattle.ck_model.specs.declared.key.Key.{Key}
 use Rattle.ck_model.specs.declared.held.Held.{Held}
 use Rattle.ck_model.specs.declared.change.Change.{Change}
-use Rattle.ck_model.specs.declared.change.Change.TheVariants.{Put, Write, Del}
 use Rattle.ck_model.specs.Key.{key_cmp, key_cmp_total}
 use Rattle.ck_model.specs.Held.{IsWord, IsEntry, IsKey}
 use Rattle.ck_model.specs.Table.{Table, IsTable, column, with_entry, record_count, newer}
 use Rattle.ck_model.specs.Chain.{newest_live_of, seen, is_live}
 use Rattle.ck_model.specs.Rules.{IsOrderly, IsSound}
+use Rattle.ck_model.proofs.CaseLaws.{some_is, none_some}
 use Rattle.ck_chain.specs.Naming.{block_of, IsNamed}
-use Rattle.ck_chain.specs.Changes.{key_of, is_deletion, value_after}
+use Rattle.ck_chain.specs.Changes.{key_of, value_after}
 use Rattle.ck_chain.proofs.ColumnLaws.{same_or_other, column-with_entry}
 use Rattle.ck_chain.proofs.PushedLaws.{entry_pushed}
 use Rattle.ck_chain.proofs.OrderlyLaws.{written_or_before, positive_id}
 use Rattle.ck_chain.proofs.TidyLaws.{column-tidied, tidied_reads}
+use Rattle.ck_chain.proofs.ReadLaws.{live_stands, last_passes}
 use Rattle.ck_push.specs.Changed.{changed, push_of, replaced, tidied_in, with_push}
 use Rattle.ck_push.specs.Growth.{gain, loss, gains, losses}
+use Rattle.ck_push.specs.Changes.{IsChange, AreMade, MayChangeAll, AllApart, IsApart, MayChange, changed_all}
 use Rattle.ck_push.proofs.ReplacedLemmas.{after_push, replaced_in_steps}
-use Rattle.ck_push.proofs.PushLemmas.{Comes, entry_comes, push_facts, push_apart, MaySet}
+use Rattle.ck_push.proofs.PushLemmas.{Comes, entry_comes, push_facts, push_apart}
 use Rattle.ck_push.proofs.SeenLemmas.{replaced_reads, other_tidied, other_replaced}
 use Rattle.ck_push.proofs.NeedLemmas.{sound_changed}
 use Rattle.ck_push.proofs.CountLemmas.{count_changed}
 use Rattle.ck_push.proofs.ReleaseLemmas.{changed_named}
 use Rattle.ck_push.proofs.RoomLemmas.{gain_stays, loss_stays}
 use Rattle.ck_push.proofs.ChangeLemmas.{deletes, may_set, entry_stays, bare_stays, push_stays, own_value}
-use Rattle.ck_model.proofs.CaseLaws.{some_is, none_some}
-use Rattle.ck_push.specs.Changes.{IsChange, AreMade, MayChangeAll, AllApart, IsApart, MayChange, changed_all}
-use Rattle.ck_chain.proofs.ReadLaws.{live_stands, last_passes}
 
 -- what the reader of each checkpoint that isn't gone sees stays
 pub changed_reads : (t : Table) (key : Key) (new : Option Held) → IsTable t → (fs : ℕ) (q : Key) → is_live t fs ≡ true → seen (changed t key new) fs q ≡ seen t fs q

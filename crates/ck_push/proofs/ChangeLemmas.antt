@@ -1,5 +1,5 @@
 -- What the conditions of a change give, and the checkpoints' entries after it.
-use Rattle.std.proofs.Common.{◌≡◌, ◌≢◌, ℕ, ◌+◌, ◌<◌, ◌≤◌, Bool, true, false, cond, not, ◌⊎◌, inl, inr, Option, Some, None, is_some, IsSome, IfSome, MatchOption, nat_eq, if◌then◌else◌, refl, sym, ap, subst, ◌∙◌, arith}
+use Rattle.std.proofs.Common.{◌≡◌, ◌≢◌, ℕ, ◌<◌, Bool, true, false, cond, ◌⊎◌, inl, inr, Option, Some, None, is_some, IsSome, IfSome, nat_eq, if◌then◌else◌, refl, sym, ap, subst, ◌∙◌, arith}
 use mathlib.Core.Bool.{false≢true}
 use Rattle.std.proofs.lemmas.Bool.Decides.{nat_tests}
 use Rattle.ck_model.specs.declared.key.Key.{Key}
@@ -7,20 +7,18 @@ use Rattle.ck_model.specs.declared.held.Held.{Held}
 use Rattle.ck_model.specs.declared.held.Held.TheVariants.{Absent}
 use Rattle.ck_model.specs.declared.change.Change.{Change}
 use Rattle.ck_model.specs.declared.change.Change.TheVariants.{Put, Write, Del}
-use Rattle.ck_model.specs.Table.{Table, IsTable, newer, column, with_entry, spare_count, written}
-use Rattle.ck_model.specs.Held.{IsEntry, IsKey}
+use Rattle.ck_model.specs.Table.{Table, IsTable, newer, column, with_entry, written}
 use Rattle.ck_model.specs.Chain.{is_covered, is_live, newest_live_of, keeps_data}
 use Rattle.ck_model.specs.Rules.{IsOrderly, IsOwn, KeyBelow, HeldBelow, stamp_in}
+use Rattle.ck_model.proofs.CaseLaws.{some_is, some_same}
 use Rattle.ck_chain.specs.Kept.{pushed}
 use Rattle.ck_chain.specs.Naming.{block_of, IsNamed}
 use Rattle.ck_chain.specs.Needless.{tidied}
-use Rattle.ck_model.proofs.CaseLaws.{some_is, some_same}
+use Rattle.ck_chain.specs.Changes.{key_of, is_deletion, value_after}
 use Rattle.ck_chain.proofs.ReadLaws.{last_passes}
 use Rattle.ck_chain.proofs.ColumnLaws.{column-with_entry}
 use Rattle.ck_chain.proofs.TidyLaws.{column-tidied}
-use Rattle.ck_chain.specs.Changes.{key_of, is_deletion, value_after}
 use Rattle.ck_push.specs.Changed.{push_into, push_of, replaced, tidied_in, changed}
-use Rattle.ck_push.specs.Growth.{one_if, growth}
 use Rattle.ck_push.proofs.PushLemmas.{MaySet, IsPush, push_facts, push_above, push_bare, map_some}
 use Rattle.ck_push.proofs.SeenLemmas.{after}
 use Rattle.ck_push.proofs.NeedLemmas.{own_pushed, pushed_there}

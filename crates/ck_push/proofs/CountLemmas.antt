@@ -14,16 +14,16 @@ use Rattle.ck_model.specs.declared.change.Change.TheVariants.{Put, Write, Del}
 use Rattle.ck_model.specs.Table.{Table, IsTable, newer, column, record_count}
 use Rattle.ck_model.specs.Chain.{is_covered, is_gone, is_live, keeps_data, newest_live_of}
 use Rattle.ck_model.specs.Rules.{IsOrderly, IsOwn, first_holder}
+use Rattle.ck_model.proofs.CaseLaws.{not_first, not_second, or_left}
 use Rattle.ck_chain.specs.Kept.{pushed}
 use Rattle.ck_chain.specs.Needless.{is_absent, says_nothing, is_needless, tidied}
-use Rattle.ck_model.proofs.CaseLaws.{not_first, not_second, or_left}
+use Rattle.ck_chain.specs.Naming.{one_of}
+use Rattle.ck_chain.specs.Changes.{key_of, value_after}
 use Rattle.ck_chain.proofs.ReadLaws.{each_above, last_passes, live_stands}
 use Rattle.ck_chain.proofs.CountLaws.{record_count-with_entry}
-use Rattle.ck_chain.specs.Naming.{one_of}
 use Rattle.ck_chain.proofs.OrderlyLaws.{positive_id}
 use Rattle.ck_chain.proofs.HolderLaws.{holder_above, none_holder, some_holder, gone_above}
 use Rattle.ck_chain.proofs.TidyLaws.{tidied_count}
-use Rattle.ck_chain.specs.Changes.{key_of, value_after}
 use Rattle.ck_push.specs.Changed.{push_into, push_of, replaced, tidied_in, changed}
 use Rattle.ck_push.specs.Growth.{one_if, absent_goes, gain, loss}
 use Rattle.ck_push.proofs.ReplacedLemmas.{after_push, primary_stays}

@@ -1,17 +1,16 @@
 -- Several changes of different keys, the deletions first: where there is room for all together, each has room in its turn.
-use Rattle.std.proofs.Common.{◌≡◌, ℕ, ◌+◌, ◌-◌, ◌≤◌, Bool, true, false, ◌&&◌, ◌||◌, not, List, [], ◌∷◌, ◌++◌, Option, Some, None, is_some, if◌then◌else◌, refl, sym, ap, ◌∙◌, arith}
+use Rattle.std.proofs.Common.{◌≡◌, ℕ, ◌+◌, ◌≤◌, Bool, true, false, ◌&&◌, ◌||◌, not, List, [], ◌∷◌, Option, Some, None, is_some, if◌then◌else◌, refl, sym, ap, ◌∙◌, arith}
 use Rattle.std.specs.List.{list_any}
 use Rattle.ck_model.specs.declared.key.Key.{Key}
 use Rattle.ck_model.specs.declared.held.Held.{Held}
 use Rattle.ck_model.specs.declared.change.Change.{Change}
-use Rattle.ck_model.specs.Table.{Table, Filesets, newer, column, record_count, spare_count}
+use Rattle.ck_model.specs.Table.{Table, Filesets, newer, column}
 use Rattle.ck_model.specs.Chain.{keeps_data, newest_live_of}
-use Rattle.ck_chain.specs.Changes.{deletions_first, is_deletion, key_of}
+use Rattle.ck_chain.specs.Changes.{is_deletion, key_of}
 use Rattle.ck_chain.specs.Kept.{pushed}
 use Rattle.ck_chain.specs.Needless.{is_absent}
-use Rattle.ck_model.proofs.CaseLaws.{and_left, and_right, not_true}
 use Rattle.ck_push.specs.Changed.{push_into, push_of}
-use Rattle.ck_push.specs.Growth.{absent_goes, gain, gains, growth, loss, losses, one_if}
+use Rattle.ck_push.specs.Growth.{absent_goes, gain, growth, loss, losses, one_if}
 
 -- what is pushed, from a column
 abbrev push_via : Table → (ℕ → Option Held) → Option ℕ → Option (ℕ × Held)

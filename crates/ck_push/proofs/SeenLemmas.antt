@@ -7,14 +7,13 @@ use Rattle.std.proofs.lemmas.Bool.Decides.{nat_tests}
 use Rattle.ck_model.specs.declared.key.Key.{Key}
 use Rattle.ck_model.specs.declared.held.Held.{Held}
 use Rattle.ck_model.specs.Key.{key_cmp}
-use Rattle.ck_model.specs.Table.{Table, IsTable, newer, column, with_entry}
+use Rattle.ck_model.specs.Table.{Table, newer, column, with_entry}
 use Rattle.ck_model.specs.Chain.{first_entry, keeps_data, seen, is_live, newest_live_of, is_covered}
 use Rattle.ck_chain.specs.Kept.{pushed, read_as}
 use Rattle.ck_chain.proofs.ColumnLaws.{column-with_entry, column-with_entry_other, same_or_other}
 use Rattle.ck_chain.proofs.ReadLaws.{older_reads, keeps_newer, pushed_reads, none_first, some_first, each_above, live_stands, last_passes, newest_at_least}
-use Rattle.ck_chain.proofs.OrderlyLaws.{positive_id}
-use Rattle.ck_chain.proofs.TidyLaws.{tidied_reads, column-tidied}
-use Rattle.ck_push.specs.Changed.{with_push, push_into, push_of, replaced, tidied_in, changed}
+use Rattle.ck_chain.proofs.TidyLaws.{column-tidied}
+use Rattle.ck_push.specs.Changed.{with_push, push_into, push_of, replaced, tidied_in}
 
 -- the table that a change leaves, where n is the newest live checkpoint
 abbrev pub after : Table → ℕ → Key → Option Held → Table

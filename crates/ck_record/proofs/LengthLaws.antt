@@ -2,8 +2,8 @@
 use Rattle.std.proofs.Common.{◌≡◌, ◌-◌, ◌≤◌, length, length-append, arith}
 use Rattle.std.proofs.lemmas.List.{length-replicate}
 use Rattle.ck_record.specs.declared.fields.Fields.{Fields}
-use Rattle.ck_record.specs.Fields.{name_bytes, spelled}
 use Rattle.ck_record.specs.declared.records.Record.{Record}
+use Rattle.ck_record.specs.Fields.{name_bytes, spelled}
 use Rattle.ck_record.specs.Record.{IsRecord, fields_of, spelling}
 use Rattle.ck_record.proofs.SpelledLemmas.{short_name}
 use Rattle.ck_record.proofs.ReadingLemmas.{is_fields}

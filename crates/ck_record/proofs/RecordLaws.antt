@@ -4,8 +4,8 @@ use Rattle.std.specs.Int.{w32, w64, from_be_bytes, to_be_bytes}
 use Rattle.std.proofs.lemmas.Nat.{from_be_bytes-to_be_bytes_4, from_be_bytes-to_be_bytes_8}
 use Rattle.ck_model.specs.Name.{IsName}
 use Rattle.ck_record.specs.declared.fields.Fields.{Fields}
-use Rattle.ck_record.specs.Fields.{IsFields, name_bytes, spelled}
 use Rattle.ck_record.specs.declared.records.Record.{Record}
+use Rattle.ck_record.specs.Fields.{IsFields, name_bytes, spelled}
 use Rattle.ck_record.specs.Record.{IsRecord, fields_of, spelling}
 use Rattle.ck_record.specs.Reading.{record_in}
 use Rattle.ck_record.proofs.SpelledLemmas.{Stands, found, short_name}

@@ -4,10 +4,10 @@ use Rattle.std.proofs.Common.{◌≡◌, ℕ, ◌≤◌, ◌&&◌, Bool, true, f
 use Rattle.std.specs.Bool.{Decides}
 use Rattle.std.specs.Option.{option_map, option_and_then}
 use Rattle.std.proofs.lemmas.Bool.Decides.{Decides-eqb}
-use Rattle.ck_model.specs.Limits.{file_limit}
-use Rattle.ck_model.specs.Name.{IsName, IsCheckpointName}
 use Rattle.ck_model.specs.declared.call.Call.{Call}
 use Rattle.ck_model.specs.declared.call.Call.TheVariants.{Make, Mkdir, Rm, Rmdir, Mv, Write, Fill, Trunc, Read, List as Ls, Stat, Create, Remove, Nodata, Removable, Ckpts, Mount, Umount, Cread, Clist, Restore, Backup, Full, Info, Sync}
+use Rattle.ck_model.specs.Limits.{file_limit}
+use Rattle.ck_model.specs.Name.{IsName, IsCheckpointName}
 use Rattle.ck_script.specs.declared.form.Form.{Form}
 use Rattle.ck_script.specs.declared.form.Form.TheVariants.{Called, Turned}
 use Rattle.ck_script.specs.Grammar.{is_text, is_name, checkpoint_name, path_of, actor_of, place_of, fill_length, read_length, bytes_of, byte_of, letter_of, switch_of, path_alone, name_alone, letter_alone, alone, mv_of, write_of, fill_of, trunc_of, read_of, create_of, nodata_of, removable_of, mount_of, cread_of, cls_of, backup_of, change_of, naming_of, mounted_of, look_of, either_of, call_of, turns_of, form_of}

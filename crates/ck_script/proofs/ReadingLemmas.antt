@@ -5,9 +5,9 @@ use Rattle.std.specs.Option.{option_map_or}
 use Rattle.std.specs.Str.Lines.{lines}
 use Rattle.std.proofs.lemmas.Bool.Decides.{nat_tests}
 use Rattle.std.proofs.lemmas.List.{take-take, take_all, drop_all}
+use Rattle.ck_model.specs.Limits.{script_limit}
 use Rattle.ck_script.specs.declared.fault.ParseFault.{ParseFault}
 use Rattle.ck_script.specs.declared.fault.ParseFault.TheVariants.{BadLine, NoMemory}
-use Rattle.ck_model.specs.Limits.{script_limit}
 use Rattle.ck_script.specs.Reading.{Parsed, nothing_read, read_lines, read_script, long_line, with_line}
 use Rattle.ck_script.specs.Steps.{IsFaultOf, IsRefusal, line_at}
 use Rattle.ck_script.proofs.LinesLemmas.{is_feed, next_line}

@@ -8,6 +8,7 @@ use Rattle.ck_model.specs.declared.key.Key.{Key}
 use Rattle.ck_model.specs.declared.key.Key.TheVariants.{Name, Node, Block}
 use Rattle.ck_model.specs.declared.cell.Payload.TheVariants.{To, File, Dir, Bytes}
 use Rattle.ck_model.specs.Held.{IsKey}
+use Rattle.ck_model.specs.Limits.{file_limit, block_len}
 use Rattle.ck_stream.specs.declared.item.Item.{Item}
 use Rattle.ck_stream.specs.declared.item.Item.TheVariants.{Put, Removed}
 use Rattle.ck_stream.specs.declared.fault.Flaw.{Flaw}
@@ -16,7 +17,6 @@ use Rattle.ck_stream.specs.declared.tag.Tag.{Tag}
 use Rattle.ck_stream.specs.declared.tag.Tag.TheVariants as tag
 use Rattle.ck_stream.specs.Spelling.{key_text, payload_text, item_text}
 use Rattle.ck_stream.specs.Right.{key_of, IsItem, IsPut}
-use Rattle.ck_model.specs.Limits.{file_limit, block_len}
 use Rattle.ck_stream.specs.Reading.{◌>>=◌, number_at, run_at, tag_at, key_at, named_at, size_in, size_at, file_at, bytes_at, item_at, follows, item_in, record_at}
 use Rattle.ck_stream.proofs.Names.{Decides-le}
 use Rattle.ck_stream.proofs.FieldLemmas.{IsBytes, bind_ok, met, done, ok_is, Takes, Takes-then, NumberTaken, word_takes, word_again, long_takes, long_again, run_takes, run_again}

@@ -3,8 +3,8 @@ use Rattle.std.proofs.Common.{◌≡◌, ◌≤◌, ℕ, suc, ◌-◌, true, fal
 use Rattle.std.specs.Prelude.{nat_eq, IfOk}
 use Rattle.std.specs.Cmp.Lexicographic.{pointwise}
 use Rattle.sha2.specs.Sha256.{sha256}
-use Rattle.ck_stream.specs.declared.item.Item.{Item}
 use Rattle.ck_model.specs.declared.key.Key.{Key}
+use Rattle.ck_stream.specs.declared.item.Item.{Item}
 use Rattle.ck_stream.specs.declared.fault.Flaw.{Flaw}
 use Rattle.ck_stream.specs.declared.fault.StreamFault.{StreamFault}
 use Rattle.ck_stream.specs.declared.fault.StreamFault.TheVariants as fault

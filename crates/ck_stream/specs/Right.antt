@@ -9,13 +9,13 @@ use Rattle.ck_model.specs.declared.cell.Payload.TheVariants.{To, File, Dir, Byte
 use Rattle.ck_model.specs.Key.{key_cmp}
 use Rattle.ck_model.specs.Held.{IsWord, IsKey}
 use Rattle.ck_model.specs.Cells.{Content}
+use Rattle.ck_model.specs.Limits.{block_len, file_limit}
 use Rattle.ck_stream.specs.declared.item.Item.{Item}
 use Rattle.ck_stream.specs.declared.item.Item.TheVariants.{Put, Removed}
 use Rattle.ck_stream.specs.declared.stream.Full.{Full}
 use Rattle.ck_stream.specs.declared.stream.Changed.{Changed}
 use Rattle.ck_stream.specs.declared.stream.Stream.{Stream}
 use Rattle.ck_stream.specs.declared.stream.Stream.TheVariants as stream
-use Rattle.ck_model.specs.Limits.{block_len, file_limit}
 
 -- what such a key may hold: a name a node, a node a file or a directory, a block its bytes
 abbrev pub Holds : Key → Payload → Type 0

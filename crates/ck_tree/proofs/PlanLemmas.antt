@@ -17,9 +17,9 @@ use Rattle.ck_model.specs.declared.checkpoint.Counters.{Counters}
 use Rattle.ck_model.specs.declared.call.Call.TheVariants as call
 use Rattle.ck_model.specs.declared.reply.Reply.{Reply}
 use Rattle.ck_model.specs.declared.reply.Reply.TheVariants as reply
+use Rattle.ck_model.specs.declared.cell.Payload.TheVariants as payload
 use Rattle.ck_model.specs.Name.{IsFileName}
 use Rattle.ck_model.specs.Path.{IsPath}
-use Rattle.ck_model.specs.declared.cell.Payload.TheVariants as payload
 use Rattle.ck_model.specs.Held.{IsKey, IsWord, IsEntry, IsStamp, BelongsTo}
 use Rattle.ck_model.specs.Cells.{Cells, size_at}
 use Rattle.ck_model.specs.Changes.{touched, with_node}
@@ -36,11 +36,11 @@ use Rattle.ck_chain.specs.Changes.{key_of}
 use Rattle.ck_tree.specs.declared.fault.TreeFault.{TreeFault}
 use Rattle.ck_tree.specs.Removing.{is_block_from, blocks_from, deletions, file_keys}
 use Rattle.ck_tree.specs.Resizing.{first_past, cut_write, cut_changes, size_put, size_changes}
-use Rattle.ck_tree.proofs.ResizingLemmas.{Fit, fit-none, fit-push, fit-weaker, resized_is}
 use Rattle.ck_tree.specs.Plan.{block_by, numbers_after, StandsForPrimary, MayBeMade, Differ, IsPlan, making}
 use Rattle.ck_tree.specs.Standing.{StandsFor}
-use Rattle.ck_tree.proofs.PathLemmas.{node_stands, file_node, directory_node, IsNameIn, name_in, new_name_is, name_stands}
 use Rattle.ck_tree.specs.Writing.{grown_put, block_writes, write_changes}
+use Rattle.ck_tree.proofs.ResizingLemmas.{Fit, fit-none, fit-push, fit-weaker, resized_is}
+use Rattle.ck_tree.proofs.PathLemmas.{node_stands, file_node, directory_node, IsNameIn, name_in, new_name_is, name_stands}
 use Rattle.ck_tree.proofs.WritingLemmas.{in_range, written_is, writes_first, grown_differ, grown_few}
 use Rattle.ck_tree.proofs.StandingLemmas.{stands_on, value_held}
 use Rattle.ck_tree.proofs.DeletionLemmas.{all_deletions, file_deleted, file_differs, blocks_stand, file_few, IsNoBlock, node_no_block, blocks_differ, blocks_apart, blocks_few}

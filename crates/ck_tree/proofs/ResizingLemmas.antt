@@ -11,20 +11,20 @@ use Rattle.ck_model.specs.declared.cell.Payload.TheVariants as payload
 use Rattle.ck_model.specs.declared.change.Change.{Change}
 use Rattle.ck_model.specs.declared.change.Change.TheVariants.{Put, Write, Del}
 use Rattle.ck_model.specs.declared.held.Small.TheVariants.{File}
+use Rattle.ck_model.specs.declared.checkpoint.Counters.{Counters}
 use Rattle.ck_model.specs.Key.{key_cmp_total, key_cmp_exact, is_past}
 use Rattle.ck_model.specs.Cells.{Cells, size_at, with_cells}
 use Rattle.ck_model.specs.Changes.{cell_of, cut_block, cut_at, cut_to, resized}
 use Rattle.ck_model.specs.Table.{Table, column}
 use Rattle.ck_model.specs.Chain.{value_at}
-use Rattle.ck_model.proofs.CellLaws.{get-retain_keys}
 use Rattle.ck_model.specs.Standing.{is_among}
-use Rattle.ck_model.specs.declared.checkpoint.Counters.{Counters}
+use Rattle.ck_model.proofs.CellLaws.{get-retain_keys}
 use Rattle.ck_chain.specs.Changes.{deletions_first, is_deletion, key_of}
+use Rattle.ck_chain.proofs.FollowingLaws.{among-passing}
 use Rattle.ck_tree.specs.Plan.{with_changes, Differ, MayBeMade}
 use Rattle.ck_tree.specs.Removing.{is_block_from, blocks_from, deletions}
 use Rattle.ck_tree.specs.Resizing.{first_past, cut_write, cut_changes, size_put, size_changes}
 use Rattle.ck_tree.specs.Standing.{StandsFor}
-use Rattle.ck_chain.proofs.FollowingLaws.{among-passing}
 use Rattle.ck_tree.proofs.DeletionLemmas.{get-deletions, no_cell}
 
 -- ---- lists of changes

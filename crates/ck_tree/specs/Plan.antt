@@ -1,18 +1,14 @@
 -- What a call that changes files is to change of the primary.
-use Rattle.std.specs.Prelude.{◌≡◌, ◌≢◌, ◌≤◌, ◌+◌, ◌%◌, ◌⊎◌, ⊤, ℕ, true, List, [], ◌∷◌, length, All, Option, Some, None, IfSome, IsSome, Result, Ok, Err, replicate}
-use Rattle.std.specs.FinMap as map
-use Rattle.ck_model.specs.declared.key.Key.{Key}
+use Rattle.std.specs.Prelude.{◌≡◌, ◌≢◌, ◌≤◌, ◌+◌, ◌%◌, ◌⊎◌, ⊤, ℕ, true, List, [], ◌∷◌, length, All, Option, Some, None, IfSome, IsSome, Ok, Err, replicate}
 use Rattle.ck_model.specs.declared.cell.Cell.{Cell}
 use Rattle.ck_model.specs.declared.cell.Payload.TheVariants.{File, Dir, Bytes}
 use Rattle.ck_model.specs.declared.call.Call.{Call}
-use Rattle.ck_model.specs.declared.call.Call.TheVariants.{Make, Mkdir, Rm, Rmdir, Mv, Write, Fill, Trunc}
+use Rattle.ck_model.specs.declared.call.Call.TheVariants.{Make, Mkdir, Write, Fill, Trunc}
 use Rattle.ck_model.specs.declared.held.Small.{Small}
 use Rattle.ck_model.specs.declared.held.Small.TheVariants as small
 use Rattle.ck_model.specs.declared.change.Change.{Change}
 use Rattle.ck_model.specs.declared.change.Change.TheVariants as change
 use Rattle.ck_model.specs.declared.checkpoint.Counters.{Counters}
-use Rattle.ck_model.specs.declared.reply.Reply.{Reply}
-use Rattle.ck_model.specs.declared.reply.Reply.TheVariants as reply
 use Rattle.ck_model.specs.Cells.{Cells, set_cell}
 use Rattle.ck_model.specs.Changes.{cell_of, block_after, cut_block}
 use Rattle.ck_model.specs.Changing.{changed_by}

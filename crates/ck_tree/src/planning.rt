@@ -15,7 +15,7 @@ use crate::nodes::size_at;
 use crate::removing::delete_file;
 use crate::resizing::resize;
 use crate::writing::write_bytes;
-use ck_model::{FILE_LIMIT, Call, Change, Key, Meta, Path, Small};
+use ck_model::{Call, Change, FILE_LIMIT, Key, Meta, Path, Small};
 use std::alloc::Global;
 
 /// The stamp at which none is left.

@@ -2,7 +2,6 @@ ghost use Rattle.ck_volume.specs.Pieces.{IsPiece};
 
 use ck_model::BLOCK;
 
-
 /// The part of a block that bytes of a call stand in: where it begins, with which of the bytes, and
 /// how many of them it has.
 #[derive(Clone, Copy, Debug, PartialEq, Eq)]

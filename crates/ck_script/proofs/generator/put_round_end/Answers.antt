@@ -1,5 +1,5 @@
-use Rattle.ck_text.proofs.AppendLaws.{appended_five}
 use Rattle.std.proofs.lemmas.Result.{on_ok_weaker}
+use Rattle.ck_text.proofs.AppendLaws.{appended_five}
 use Rattle.ck_script.proofs.generator.put_round_end.Goals as goal
 
 pub returns : goal.returns
