@@ -13,10 +13,9 @@ ghost use Rattle.ck_volume.specs.Reading.{bytes_of, part_of, IsFilled, IsReading
 ghost use Rattle.ck_disk.specs.Runs.{OnlyReads};
 
 use crate::fault::Fault;
-use ck_chain::value;
 use ck_disk::{Block, Disk};
 use ck_model::{BLOCK, Held, Key, Meta};
-use ck_tree::size_at;
+use ck_tree::{held_at, size_at};
 use std::alloc::Global;
 
 /// Where the data blocks stand: for n below `blocks`, data block n is the device's `base` + n.
@@ -81,19 +80,6 @@ fn append_part<D: Disk>(
     load(disk, area, named, &mut block)?;
     bytes.extend_from_slice(&block[from..from + count])?;
     Ok(())
-}
-
-/// What a fileset has at a key, the primary among them.
-pub fn held_at<M: Meta>(meta: &M, fs: u32, key: &Key) -> Option<Held>
-    ensures { result ≡ value_at (M.table meta.now) fs key.now }
-{
-    if fs > 0 {
-        return value(meta, fs, key);
-    }
-    match meta.get(0, key) {
-        Some(Held::Absent) => None,
-        held => held,
-    }
 }
 
 /// At most so many bytes of a file of a fileset from a place on, as far as they stand below its
