@@ -28,7 +28,7 @@ use Rattle.ck_chain.specs.Following.{is_before, IsNext, is_behind}
 use Rattle.ck_chain.proofs.KeyOrderLaws.{same_or_before}
 use Rattle.ck_tree.specs.Listing.{child_at, least_name}
 use Rattle.ck_tree.specs.Standing.{StandsFor}
-use Rattle.ck_tree.proofs.StandingLemmas.{value_key}
+use Rattle.ck_tree.proofs.StandingLaws.{value_key}
 use Rattle.ck_tree.proofs.ListingLemmas.{left, left_next, none_before, none_left, Skips}
 
 -- no name is before the least one

@@ -1,5 +1,5 @@
 pub mod Asking
-pub mod StandingLemmas
+pub mod StandingLaws
 pub mod ListingLemmas
 pub mod ChildrenLemmas
 pub mod RemovingLemmas

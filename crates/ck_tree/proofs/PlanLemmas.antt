@@ -42,7 +42,7 @@ use Rattle.ck_tree.specs.Writing.{grown_put, block_writes, write_changes}
 use Rattle.ck_tree.proofs.ResizingLemmas.{Fit, fit-none, fit-push, fit-weaker, resized_is}
 use Rattle.ck_tree.proofs.PathLemmas.{node_stands, file_node, directory_node, IsNameIn, name_in, new_name_is, name_stands}
 use Rattle.ck_tree.proofs.WritingLemmas.{in_range, written_is, writes_first, grown_differ, grown_few}
-use Rattle.ck_tree.proofs.StandingLemmas.{stands_on, value_held}
+use Rattle.ck_tree.proofs.StandingLaws.{stands_on, value_held}
 use Rattle.ck_tree.proofs.DeletionLemmas.{all_deletions, file_deleted, file_differs, blocks_stand, file_few, IsNoBlock, node_no_block, blocks_differ, blocks_apart, blocks_few}
 
 -- ---- what stands has an entry in the primary

@@ -50,7 +50,7 @@ use Rattle.ck_push.specs.Changes.{MayChangeAll, AllApart, MayChange, changed_all
 use Rattle.ck_volume.specs.Placing.{with_places, AreDistinct, ArePlaced, AreHeld}
 use Rattle.ck_volume.specs.Plain.{IsOurs}
 use Rattle.ck_volume.specs.Room.{has_room, lack_of_room, answered_with}
-use Rattle.ck_volume.proofs.Stands.{stands}
+use Rattle.ck_tree.proofs.StandingLaws.{stands_on as stands}
 use Rattle.ck_volume.proofs.Worlds.{SameNamed}
 use Rattle.ck_volume.proofs.UseLemmas.{extent_is, is-named, named-is}
 use Rattle.ck_volume.proofs.ChangingLemmas.{changing-full, changing-fits}
