@@ -18,9 +18,6 @@ repeat_known {X} {K} same other tied part area items r is h =
     let second = subst (λ (list : List (Option K)). IfOk r (IsFirst (repeats other list) (length list))) is first in
     subst (λ (n : ℕ). IfOk r (IsFirst (repeats other (list_map part area)) n)) (length-map area part) second
 
--- ---- two tests in turn
-
-module _ (test other : ℕ → Bool) (limit : ℕ) where
 
 -- the same test, as it is known elsewhere
 pub first_alike : (test other : ℕ → Bool) (limit : ℕ) (first : Option ℕ) → ((k : ℕ) → test k ≡ other k) → IsFirst test limit first → IsFirst other limit first
