@@ -1,9 +1,8 @@
 -- The first slot that breaks a rule, slot by slot.
-use Rattle.std.proofs.Common.{◌≡◌, ℕ, zero, suc, ◌+◌, ◌<◌, ◌≤◌, true, false, nat_lt, length, Some, None, is_some, if◌then◌else◌, refl, sym, ap, ◌∙◌, arith}
+use Rattle.std.proofs.Common.{◌≡◌, ℕ, zero, suc, ◌+◌, ◌<◌, ◌≤◌, true, false, nat_lt, Some, if◌then◌else◌, refl, ap, ◌∙◌, arith}
 use Rattle.std.proofs.lemmas.Bool.Decides.{nat_tests}
-use mathlib.Core.Bool.{false≢true}
 use Rattle.ck_area.specs.Area.{Area}
-use Rattle.ck_area.specs.Damage.{breaks, damaged_from, damage}
+use Rattle.ck_area.specs.Damage.{breaks, damaged_from}
 
 module _ (blocks records : ℕ) (area : Area) where
   stays : (slot left : ℕ) → breaks blocks records area slot ≡ false → damaged_from blocks records area slot (suc left) ≡ damaged_from blocks records area (suc slot) left

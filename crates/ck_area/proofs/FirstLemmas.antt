@@ -1,5 +1,5 @@
 -- The first number that passes a test.
-use Rattle.std.proofs.Common.{◌≡◌, ℕ, zero, suc, ◌<◌, ◌≤◌, ◌+◌, Bool, true, false, cond, ◌||◌, Option, Some, None, IfSome, inl, inr, arith, List, length, map as list_map, subst, sym, ap, ◌∙◌, refl}
+use Rattle.std.proofs.Common.{◌≡◌, ℕ, zero, suc, ◌<◌, ◌+◌, Bool, true, false, cond, Option, Some, None, inl, inr, arith, List, length, map as list_map, subst, sym, ap, ◌∙◌, refl}
 use Rattle.std.proofs.lemmas.List.{length-map}
 use Rattle.std.specs.declared.result.Result.{Result}
 use Rattle.std.specs.Result.{IfOk}
@@ -17,10 +17,6 @@ repeat_known {X} {K} same other tied part area items r is h =
     let first = subst (λ (test : K → K → Bool). IfOk r (IsFirst (repeats test items) (length items))) all h in
     let second = subst (λ (list : List (Option K)). IfOk r (IsFirst (repeats other list) (length list))) is first in
     subst (λ (n : ℕ). IfOk r (IsFirst (repeats other (list_map part area)) n)) (length-map area part) second
-
--- ---- two tests in turn
-
-module _ (test other : ℕ → Bool) (limit : ℕ) where
 
 -- the same test, as it is known elsewhere
 pub first_alike : (test other : ℕ → Bool) (limit : ℕ) (first : Option ℕ) → ((k : ℕ) → test k ≡ other k) → IsFirst test limit first → IsFirst other limit first

@@ -1,5 +1,5 @@
 -- Lists each of whose elements keeps something with those before it.
-use Rattle.std.proofs.Common.{◌≡◌, Bool, true, false, T, cond, ◌||◌, List, [], ◌∷◌, ◌++◌, map as list_map, filter, Some, is_some, refl, sym, ap, subst, ◌∙◌, ◌⊎◌, inl, inr, append_assoc, append-nil}
+use Rattle.std.proofs.Common.{◌≡◌, Bool, true, false, T, cond, ◌||◌, List, [], ◌∷◌, ◌++◌, map as list_map, filter, Some, is_some, refl, sym, ap, subst, ◌∙◌, ◌⊎◌, inl, inr, append_assoc}
 use Rattle.std.specs.Bool.{⊤}
 use Rattle.std.specs.List.{list_any, AllByRecursion}
 use Rattle.std.specs.declared.cmp.Ordering.{Ordering}
@@ -10,9 +10,9 @@ use Rattle.std.specs.FinMap.{IsAntisymmetric, find, is_sorted}
 use Rattle.std.specs.FinMap.Entries.{below_all}
 use Rattle.std.proofs.lemmas.Cmp.{tied_itself, eq_by_cmp_equiv}
 use mathlib.Core.Bool.{false≢true}
-use Rattle.ck_model.proofs.CellsLemmas.{equal}
-use Rattle.ck_model.proofs.Rows.{head_of}
-use Rattle.ck_model.proofs.Filesets.{all_found}
+use Rattle.ck_model.proofs.CellLaws.{equal}
+use Rattle.ck_model.proofs.CaseLaws.{head_of}
+use Rattle.ck_model.proofs.FilesetLaws.{all_found}
 
 -- each of these keeps P with those before it, and the front stands before them all
 abbrev pub Each : {X : Type 0} → (List X → X → Type 0) → List X → List X → Type 0

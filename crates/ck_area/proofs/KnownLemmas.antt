@@ -12,7 +12,7 @@ use Rattle.ck_model.specs.declared.checkpoint.Fileset.{Fileset}
 use Rattle.ck_model.specs.Key.{key_cmp, entry_cmp, entry_cmp_total}
 use Rattle.ck_model.specs.World.{keeps_files}
 use Rattle.ck_model.specs.contracts.key.KeyOrd.TheImpl.{ghosts}
-use Rattle.ck_model.proofs.ValuesOf.{tied_entry}
+use Rattle.ck_model.proofs.ValueLaws.{tied_entry}
 use Rattle.ck_record.specs.declared.records.Record.{Record}
 use Rattle.ck_area.specs.Area.{Area, entries_by, entries_in, filesets_by, filesets_in}
 use Rattle.ck_area.specs.Damage.{data_upto}

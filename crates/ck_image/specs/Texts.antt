@@ -2,6 +2,7 @@
 use Rattle.std.specs.Prelude.{ℕ, List, [], ◌∷◌, ◌++◌, length, Result, Ok, Err, nat_lt, if◌then◌else◌, codes}
 use Rattle.std.specs.Fmt.{decimal}
 use Rattle.hex.specs.Hex.{encode_lower}
+use Rattle.ck_model.specs.Limits.{input_limit}
 use Rattle.ck_stream.specs.declared.fault.StreamFault.{StreamFault}
 use Rattle.ck_stream.specs.declared.fault.StreamFault.TheVariants as fault
 use Rattle.ck_stream.specs.declared.stream.Stream.{Stream}
@@ -61,10 +62,6 @@ abbrev pub made_of : Command → List ℕ → Result (List ℕ) Refusal
 made_of Verify bytes = whole_in bytes >>= λ s. Ok (stream_line s)
 made_of Apply bytes = applied_in bytes >>= λ full. Ok (text (stream.Full full))
 made_of Merge bytes = merged_in bytes >>= λ changed. Ok (text (stream.Changed changed))
-
--- an input may have so many bytes
-abbrev pub input_limit : ℕ
-input_limit = 1073741824
 
 -- what a command prints, or why it refuses its input
 unfoldable pub printed : Command → List ℕ → Result (List ℕ) Refusal

@@ -15,7 +15,7 @@ use Rattle.ck_model.specs.declared.cell.Payload.{Payload}
 use Rattle.ck_model.specs.contracts.key.KeyOrd.TheImpl.{ghosts}
 use Rattle.ck_model.specs.Cells.{Content}
 use Rattle.ck_model.specs.Key.{key_cmp, key_cmp_exact}
-use Rattle.ck_model.proofs.CellsLemmas.{tied-is, find-values, is_sorted-values}
+use Rattle.ck_model.proofs.CellLaws.{tied-is, find-values, is_sorted-values}
 use Rattle.ck_stream.specs.declared.item.Item.{Item}
 use Rattle.ck_stream.specs.Right.{change_of, changes, IsItem, AreItems}
 use Rattle.ck_stream.proofs.ByKeyLaws.{both, derived_key, same_test, find_above}

@@ -8,8 +8,8 @@ use Rattle.ck_model.specs.Cells.{Cells, Content}
 use Rattle.ck_model.specs.Key.{key_cmp, key_cmp_total}
 use Rattle.ck_model.specs.Streams.{image, set_all, applied, changed as map_changes}
 use Rattle.ck_model.specs.Laws.{OfOneHistory}
-use Rattle.ck_model.proofs.CellsLemmas.{find-append_or, entries_are}
-use Rattle.ck_model.proofs.StreamsLemmas.{get-set_all, applied-changed}
+use Rattle.ck_model.proofs.CellLaws.{find-append_or, entries_are}
+use Rattle.ck_model.proofs.StreamLaws.{get-set_all, applied-changed}
 use Rattle.ck_stream.specs.declared.item.Item.{Item}
 use Rattle.ck_stream.specs.declared.item.Item.TheVariants.{Put, Removed}
 use Rattle.ck_stream.specs.declared.stream.Full.{Full}

@@ -17,7 +17,7 @@ use Rattle.ck_model.specs.Cells.{Cells, bytes_in, size_in, is_directory, is_dire
 use Rattle.ck_model.specs.Reading.{block_byte, file_byte}
 use Rattle.ck_model.specs.Changes.{cell_of, touched, byte_after, block_after, grown_to, written, cut_block, cut_at, cut_to, resized}
 use Rattle.ck_model.specs.Tree.{HasNode, IsGrown}
-use Rattle.ck_model.proofs.CellsLemmas.{get-with_cells, get-retain_keys}
+use Rattle.ck_model.proofs.CellLaws.{get-with_cells, get-retain_keys}
 use Rattle.ck_model.proofs.Lookups.{tied_with_itself, untied}
 use Rattle.ck_model.proofs.Grafts.{same_directory, same_stands}
 use Rattle.ck_model.proofs.FileBytes.{same_byte, no_byte, same_size, IsRewrite, rewritten}

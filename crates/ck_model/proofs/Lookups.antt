@@ -5,7 +5,7 @@ use Rattle.std.proofs.lemmas.Cmp.{tied_itself}
 use Rattle.std.specs.FinMap as map
 use Rattle.ck_model.specs.declared.key.Key.{Key}
 use Rattle.ck_model.specs.Key.{key_cmp, key_cmp_total}
-use Rattle.ck_model.proofs.CellsLemmas.{tied-is}
+use Rattle.ck_model.proofs.CellLaws.{tied-is}
 
 pub tied_with_itself : (q : Key) → eq_by_cmp key_cmp q q ≡ true
 tied_with_itself q = ap is_eq (tied_itself key_cmp_total q)

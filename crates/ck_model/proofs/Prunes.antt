@@ -12,7 +12,7 @@ use Rattle.ck_model.specs.Key.{is_of}
 use Rattle.ck_model.specs.Cells.{Cells, named_node, size_in, is_directory_at, size_at}
 use Rattle.ck_model.specs.Changes.{cell_of, with_node, without_file, without_directory, renamed}
 use Rattle.ck_model.specs.Tree.{HasName, HasNode, child_at, IsTree, NodesBelow, IsGrown}
-use Rattle.ck_model.proofs.CellsLemmas.{get-retain_keys}
+use Rattle.ck_model.proofs.CellLaws.{get-retain_keys}
 use Rattle.ck_model.proofs.Lookups.{cases_key, get-insert_same, get-insert_other, get-remove_same, get-remove_other}
 use Rattle.ck_model.proofs.Walks.{directory_stands, child_stands}
 use Rattle.ck_model.proofs.Grafts.{NameAfter, stays, goes, comes, IsGraft, IsPlaced, no_child}

@@ -19,9 +19,10 @@ use Rattle.ck_model.specs.Refusals.{and_then, refuse_if}
 use Rattle.ck_model.specs.Walk.{file_at, directory_at, name_at, new_name_at}
 use Rattle.ck_model.specs.Changes.{with_node, without_file, without_directory, renamed, written, resized}
 use Rattle.ck_model.specs.World.{World}
-use Rattle.ck_model.specs.Changing.{is_spent, has_names, with_primary, made, removed, removed_directory, moved, file_limit, overwritten, truncated}
+use Rattle.ck_model.specs.Changing.{is_spent, has_names, with_primary, made, removed, removed_directory, moved, overwritten, truncated}
+use Rattle.ck_model.specs.Limits.{file_limit}
 use Rattle.ck_model.specs.Tree.{HasName, HasNode, IsTree, IsGrown}
-use Rattle.ck_model.proofs.CellsLemmas.{tied-is}
+use Rattle.ck_model.proofs.CellLaws.{tied-is}
 use Rattle.ck_model.proofs.Walks.{file_parts, directory_parts, name_parts, new_name_parts, last_names}
 use Rattle.ck_model.proofs.Prunes.{with_node-grown, without_file-grown, without_directory-grown, renamed-grown}
 use Rattle.ck_model.proofs.FileEdits.{written-grown, resized-grown}

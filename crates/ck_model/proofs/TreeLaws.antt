@@ -30,7 +30,7 @@ use Rattle.ck_model.specs.Step.{Outcome, told, outcome_of, answered, done, with_
 use Rattle.ck_model.specs.History.{Past, CallsBy, begun, is_fault, created_id, world_after, past_after, past_of, IsLegalFrom, IsLegal, state}
 use Rattle.ck_model.specs.Tree.{HasName, HasNode, child_at, IsTree, NodesBelow, IsGrown}
 use Rattle.ck_model.specs.Laws.{IsWorld, HasTrees, TreesBegin, CallsKeepTrees, TreesStay}
-use Rattle.ck_model.proofs.CellsLemmas.{get-marked}
+use Rattle.ck_model.proofs.CellLaws.{get-marked}
 use Rattle.ck_model.proofs.Lookups.{get-insert_same, get-insert_other}
 use Rattle.ck_model.proofs.WorldLemmas.{IsLater, All-remain, All-append}
 use Rattle.ck_model.proofs.SpaceLemmas.{without_picks-rest}

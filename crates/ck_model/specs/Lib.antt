@@ -23,3 +23,7 @@ pub mod Reporting
 pub mod Step
 pub mod History
 pub mod Laws
+pub mod Ordinary
+pub mod Rows
+pub mod Placed
+pub mod Limits

@@ -3,13 +3,14 @@ use Rattle.std.specs.Prelude.{ℕ, ◌+◌, ◌||◌, Bool, false, List, [], ◌
 use Rattle.std.specs.Option.{option_map_or, option_and_then}
 use Rattle.std.specs.Str.Lines.{lines}
 use Rattle.ck_model.specs.declared.call.Call.{Call}
+use Rattle.ck_model.specs.Limits.{script_limit}
 use Rattle.ck_text.specs.Words.{words_of}
 use Rattle.ck_script.specs.declared.form.Form.{Form}
 use Rattle.ck_script.specs.declared.form.Form.TheVariants.{Called, Turned}
 use Rattle.ck_script.specs.declared.line.Line.{Line}
 use Rattle.ck_script.specs.Grammar.{form_of}
 use Rattle.ck_script.specs.Built.{is_built}
-use Rattle.ck_script.specs.Limits.{are_within_limits, script_limit}
+use Rattle.ck_script.specs.Limits.{are_within_limits}
 use Rattle.ck_script.specs.Numbered.{numbers_in}
 
 -- what is read of a script: the lines of its calls, and its turns

@@ -14,10 +14,8 @@ use crate::form::built_form;
 use crate::tally::Tally;
 use crate::words::words_in;
 use crate::{Lines, ParseFault, Refusal, Script};
+use ck_model::SCRIPT_LIMIT;
 use std::alloc::Global;
-
-/// The longest script, in bytes.
-const SCRIPT_LIMIT: usize = 16_777_216;
 
 fn is_skipped(line: &[u8], words: &[&[u8]]) -> bool
     requires { list_map (λ word. word.now) words.now ≡ words_of line.now }

@@ -7,13 +7,12 @@ use Rattle.std.specs.FinMap.{is_sorted}
 use Rattle.std.specs.FinMap.Entries.{below_all}
 use Rattle.std.proofs.lemmas.Bool.{cases_lt}
 use Rattle.std.proofs.lemmas.Bool.Decides.{nat_tests}
-use Rattle.ck_model.specs.declared.key.Key.{Key}
 use Rattle.std.specs.Cmp.Lexicographic.{slice_cmp}
+use Rattle.ck_model.specs.declared.key.Key.{Key}
 use Rattle.ck_model.specs.Key.{spelled, entry_cmp, entry_cmp_total}
 use Rattle.ck_slots.specs.declared.search.Cut.{Cut}
 use Rattle.ck_slots.specs.declared.search.Cut.TheVariants.{Fileset, Before, Behind}
 use Rattle.ck_slots.specs.Cut.{front, stands_before}
-use Rattle.ck_model.specs.Ordered.{place_of}
 
 pub both_of : (a b : Bool) → T (a && b) → T a × T b
 both_of true true h = (tt, tt)

@@ -19,7 +19,7 @@ use Rattle.ck_model.specs.contracts.key.KeyOrd.TheImpl.{ghosts}
 use Rattle.ck_model.specs.Cells.{Content}
 use Rattle.ck_model.specs.Key.{key_cmp, key_cmp_total, key_cmp_exact}
 use Rattle.ck_model.specs.Streams.{set_to, set_all, applied}
-use Rattle.ck_model.proofs.CellsLemmas.{tied-is, entries_are}
+use Rattle.ck_model.proofs.CellLaws.{tied-is, entries_are}
 use Rattle.ck_stream.specs.declared.item.Item.{Item}
 use Rattle.ck_stream.specs.declared.item.Item.TheVariants.{Put, Removed}
 use Rattle.ck_stream.specs.Right.{change_of, changes, contents, IsItem, IsPut, AreItems}

@@ -5,7 +5,7 @@ use Rattle.ck_model.specs.declared.key.Key.{Key}
 use Rattle.ck_model.specs.Cells.{Cells, Content}
 use Rattle.ck_model.specs.Streams.{image, applied, changed as map_changes}
 use Rattle.ck_model.specs.Laws.{OfOneHistory}
-use Rattle.ck_model.proofs.StreamsLemmas.{applied-changed}
+use Rattle.ck_model.proofs.StreamLaws.{applied-changed}
 use Rattle.ck_stream.specs.declared.item.Item.{Item}
 use Rattle.ck_stream.specs.declared.item.Item.TheVariants.{Put, Removed}
 use Rattle.ck_stream.specs.declared.stream.Full.{Full}
