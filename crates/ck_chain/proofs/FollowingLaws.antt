@@ -111,14 +111,6 @@ first_with false b h = cc
 
 -- ---- the same next key for another test, and the next one but one
 
--- what a test misses, a narrower one misses too
-pub narrower : (t : Table) (p r : Key → Bool) (after next : Option Key) → ((q : Key) → p q ≡ false → r q ≡ false) → IsNext t p after next → IsNext t r after next
-narrower t p r after next less is = record {
-  behind = is.behind;
-  held = is.held;
-  between = λ q behind before. less q (is.between q behind before);
-}
-
 -- the key behind one that is behind another
 pub further : (t : Table) (passes : Key → Bool) (after : Option Key) (key : Key) (next : Option Key) → is_after after key ≡ true → IsNext t passes (Some key) next → IfSome next (λ k. is_after after k ≡ true)
 further t passes after key None at is = tt
