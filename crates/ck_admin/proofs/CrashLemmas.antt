@@ -13,7 +13,7 @@ use Rattle.ck_volume.specs.Cuts.{CutSince, LeavesCuts as KeepsCuts}
 use Rattle.ck_volume.specs.Engine.{history_of}
 use Rattle.ck_volume.specs.Recovering.{Recovers}
 use Rattle.ck_volume.specs.Told.{AreAnswered}
-use Rattle.ck_volume.proofs.CommittedLemmas.{leaves_more}
+use Rattle.ck_disk.proofs.MomentLaws.{leaves_more}
 use Rattle.ck_volume.proofs.TopCutsLemmas.{opens-recovers}
 use Rattle.ck_admin.specs.Crash.{synced_count, CutFrom, LeavesSince}
 

@@ -13,7 +13,7 @@ use Rattle.ck_model.specs.declared.reply.Reply.{Reply}
 use Rattle.ck_model.specs.Streams.{Texts}
 use Rattle.ck_model.specs.World.{World}
 use Rattle.ck_model.specs.History.{Past, CallsBy, begun, past_of, past_after, IsLegal, IsLegalFrom, IsOfScript, call_at, calls_of, numbers_of, is_write_fault, is_broken}
-use Rattle.ck_model.proofs.HistoryLemmas.{past_of-append, IsLegalFrom-append}
+use Rattle.ck_model.proofs.HistoryLaws.{past_of-append, IsLegalFrom-append}
 use Rattle.ck_script.specs.declared.line.Line.{Line}
 use Rattle.ck_script.specs.Numbered.{calls_in, numbers_in, IsNumbered}
 use Rattle.ck_io.specs.Clock.{ClockMeaning}

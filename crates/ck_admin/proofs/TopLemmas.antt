@@ -23,7 +23,7 @@ use Rattle.ck_volume.specs.Causes.{HasCauses, replies_of}
 use Rattle.ck_admin.specs.Play.{IsPlay, lost_a_write}
 use Rattle.ck_admin.specs.Statuses.{IsPrintFault, IsOpenStatus, play_status}
 use Rattle.ck_admin.specs.Top.{PrintsPlay, EndsWhole, EndsAnyhow, LostNothing, Gains, GainsFront, GainsAllOrNothing, EndsPlay, leaves_device}
-use Rattle.ck_volume.proofs.OpenLemmas.{leaves_on}
+use Rattle.ck_disk.proofs.RunLaws.{leaves_on}
 use Rattle.ck_admin.proofs.PlayedLemmas.{rose_later}
 
 -- ---- a device without unsynced writes

@@ -10,7 +10,7 @@ ghost use Rattle.ck_volume.specs.Built.{IsBuilt};
 ghost use Rattle.ck_volume.specs.Volume.{disk_of, origin_of, told_of, spoilt_of, world_of, IsBegun};
 ghost use Rattle.ck_volume.specs.Recovering.{Recovers};
 ghost use Rattle.ck_words.specs.declared.command.Command.TheVariants.{Play, Mkfs};
-ghost use Rattle.ck_words.specs.Words.{command_of};
+ghost use Rattle.ck_words.specs.Command.{command_of};
 ghost use Rattle.ck_admin.specs.Ending.{EndsOn};
 ghost use Rattle.ck_admin.specs.Play.{IsLater};
 ghost use Rattle.ck_admin.specs.Statuses.{play_status};

@@ -5,12 +5,10 @@ ghost use Rattle.ck_volume.specs.Built.{IsBuilt};
 ghost use Rattle.ck_admin.specs.Statuses.{IsReadFault};
 
 use ck_io::{InputFault, Source, read_all};
+use ck_model::SCRIPT_LIMIT;
 use ck_report::Status;
 use ck_script::{ParseFault, Script, parse};
 use std::alloc::Global;
-
-/// A script has at most so many bytes.
-const SCRIPT_LIMIT: usize = 16777216;
 
 fn read_bytes<S: Source>(alloc: Global, source: &mut S) -> Result<Vec<u8>, Status>
     ensures read { IfOk result (λ bytes. IsTrue (S.means source.old).tells → read_script bytes.items ≡ read_script (S.means source.old).left) }

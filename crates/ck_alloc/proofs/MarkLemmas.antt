@@ -148,11 +148,6 @@ first_marked groups words word marked mark first = (
   λ k before. unmarked_word groups words k marked (false_from_ne_true (has groups k) (λ member. absurd (omega (arith, first k member, before)))),
 )
 
--- where no group has a mark, no word has a member
-pub none_marked : (groups words : List ℕ) → Marks groups words → ((k : ℕ) → get_or groups k 0 ≡ 0) → (k : ℕ) → has words k ≡ false
-none_marked groups words marked none k =
-    has-zero_word words k (unmarked_word groups words (k / 64) marked (has-zero_word groups (k / 64) (none (k / 64 / 64))))
-
 -- a word that isn't 0 is one of the words
 pub word_within : (words : List ℕ) (word : ℕ) → 0 < get_or words word 0 → word < length words
 word_within words word full =

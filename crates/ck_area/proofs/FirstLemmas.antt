@@ -1,5 +1,5 @@
 -- The first number that passes a test.
-use Rattle.std.proofs.Common.{◌≡◌, ℕ, zero, suc, ◌<◌, ◌≤◌, ◌+◌, Bool, true, false, cond, ◌||◌, Option, Some, None, IfSome, inl, inr, arith, List, length, map as list_map, subst, sym, ap, ◌∙◌, refl}
+use Rattle.std.proofs.Common.{◌≡◌, ℕ, zero, suc, ◌<◌, ◌+◌, Bool, true, false, cond, Option, Some, None, inl, inr, arith, List, length, map as list_map, subst, sym, ap, ◌∙◌, refl}
 use Rattle.std.proofs.lemmas.List.{length-map}
 use Rattle.std.specs.declared.result.Result.{Result}
 use Rattle.std.specs.Result.{IfOk}
@@ -17,31 +17,6 @@ repeat_known {X} {K} same other tied part area items r is h =
     let first = subst (λ (test : K → K → Bool). IfOk r (IsFirst (repeats test items) (length items))) all h in
     let second = subst (λ (list : List (Option K)). IfOk r (IsFirst (repeats other list) (length list))) is first in
     subst (λ (n : ℕ). IfOk r (IsFirst (repeats other (list_map part area)) n)) (length-map area part) second
-
--- ---- two tests in turn
-
-or_neither : (a b : Bool) → a ≡ false → b ≡ false → (a || b) ≡ false
-or_neither a b h k = ap (λ x. x || b) h ∙ k
-
-or_one : (a b : Bool) → a ≡ true → (a || b) ≡ true
-or_one true b h = refl
-or_one false b h = cc
-
-or_other : (a b : Bool) → b ≡ true → (a || b) ≡ true
-or_other true b h = refl
-or_other false b h = h
-
-module _ (test other : ℕ → Bool) (limit : ℕ) where
-  pub none_of_both : IsFirst test limit None → IsFirst other limit None → IsFirst (λ k. test k || other k) limit None
-  none_of_both h i k below = or_neither (test k) (other k) (h k below) (i k below)
-
-  pub first_of_test : (a : ℕ) (second : Option ℕ) → IsFirst test limit (Some a) → IsFirst other limit second → IfSome second (λ b. a ≤ b) → IsFirst (λ k. test k || other k) limit (Some a)
-  first_of_test a None h i le = (h.0, or_one (test a) (other a) h.1, λ k below. or_neither (test k) (other k) (h.2 k below) (i k (omega (arith, h.0))))
-  first_of_test a (Some b) h i le = (h.0, or_one (test a) (other a) h.1, λ k below. or_neither (test k) (other k) (h.2 k below) (i.2 k (omega (arith, le))))
-
-  pub first_of_other : (b : ℕ) (first : Option ℕ) → IsFirst other limit (Some b) → IsFirst test limit first → IfSome first (λ a. b ≤ a) → IsFirst (λ k. test k || other k) limit (Some b)
-  first_of_other b None i h le = (i.0, or_other (test b) (other b) i.1, λ k below. or_neither (test k) (other k) (h k (omega (arith, i.0))) (i.2 k below))
-  first_of_other b (Some a) i h le = (i.0, or_other (test b) (other b) i.1, λ k below. or_neither (test k) (other k) (h.2 k (omega (arith, le))) (i.2 k below))
 
 -- the same test, as it is known elsewhere
 pub first_alike : (test other : ℕ → Bool) (limit : ℕ) (first : Option ℕ) → ((k : ℕ) → test k ≡ other k) → IsFirst test limit first → IsFirst other limit first

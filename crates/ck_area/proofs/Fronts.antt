@@ -1,5 +1,5 @@
 -- Lists each of whose elements keeps something with those before it.
-use Rattle.std.proofs.Common.{◌≡◌, Bool, true, false, T, cond, ◌||◌, List, [], ◌∷◌, ◌++◌, map as list_map, filter, Some, is_some, refl, sym, ap, subst, ◌∙◌, ◌⊎◌, inl, inr, append_assoc, append-nil}
+use Rattle.std.proofs.Common.{◌≡◌, Bool, true, false, T, cond, ◌||◌, List, [], ◌∷◌, ◌++◌, map as list_map, filter, Some, is_some, refl, sym, ap, subst, ◌∙◌, ◌⊎◌, inl, inr, append_assoc}
 use Rattle.std.specs.Bool.{⊤}
 use Rattle.std.specs.List.{list_any, AllByRecursion}
 use Rattle.std.specs.declared.cmp.Ordering.{Ordering}
@@ -10,9 +10,9 @@ use Rattle.std.specs.FinMap.{IsAntisymmetric, find, is_sorted}
 use Rattle.std.specs.FinMap.Entries.{below_all}
 use Rattle.std.proofs.lemmas.Cmp.{tied_itself, eq_by_cmp_equiv}
 use mathlib.Core.Bool.{false≢true}
-use Rattle.ck_model.proofs.CellsLemmas.{equal}
-use Rattle.ck_model.proofs.Rows.{head_of}
-use Rattle.ck_model.proofs.Filesets.{all_found}
+use Rattle.ck_model.proofs.CellLaws.{equal}
+use Rattle.ck_model.proofs.CaseLaws.{head_of}
+use Rattle.ck_model.proofs.FilesetLaws.{all_found}
 
 -- each of these keeps P with those before it, and the front stands before them all
 abbrev pub Each : {X : Type 0} → (List X → X → Type 0) → List X → List X → Type 0
@@ -46,14 +46,6 @@ module _ {X : Type 0} where
   among_right x [] ys h = h
   among_right x (y ∷ xs) ys h = inr (among_right x xs ys h)
 
-  pub among_or : (x : X) (xs ys : List X) → Among x (xs ++ ys) → Among x xs ⊎ Among x ys
-  among_or x [] ys h = inr h
-  among_or x (y ∷ xs) ys h =
-      elim h [
-        | inl same ↦ inl (inl same)
-        | inr rest ↦ elim (among_or x xs ys rest) [ inl left ↦ inl (inr left) | inr right ↦ inr right ]
-      ]
-
   pub all_among : (P : X → Type 0) (x : X) (xs : List X) → AllByRecursion P xs → Among x xs → P x
   all_among P x [] all h = absurd h
   all_among P x (y ∷ xs) all h = elim h [ inl same ↦ subst P (sym same) all.0 | inr rest ↦ all_among P x xs all.1 rest ]
@@ -82,11 +74,6 @@ module _ {X : Type 0} where
   pub each_then : (P Q : List X → X → Type 0) (front xs : List X) → ((before : List X) (x : X) → P before x → Q before x) → Each P front xs → Each Q front xs
   each_then P Q front [] then all = tt
   each_then P Q front (x ∷ xs) then all = (then front x all.0, each_then P Q (front ++ x ∷ []) xs then all.1)
-
-  pub each_append : (P : List X → X → Type 0) (front xs ys : List X) → Each P front xs → Each P (front ++ xs) ys → Each P front (xs ++ ys)
-  each_append P front [] ys all more = subst (λ before. Each P before ys) (append-nil front) more
-  each_append P front (x ∷ xs) ys all more =
-      (all.0, each_append P (front ++ x ∷ []) xs ys all.1 (subst (λ before. Each P before ys) (sym (append_assoc front (x ∷ []) xs)) more))
 
   -- what is so wherever the list is parted is so of each
   pub each_where : (P : List X → X → Type 0) (front xs : List X) → ((before : List X) (x : X) (behind : List X) → before ++ x ∷ behind ≡ front ++ xs → P before x) → Each P front xs

@@ -11,11 +11,11 @@ use Rattle.std.specs.FinMap.{is_sorted, entries_sorted}
 use Rattle.std.specs.FinMap as map
 use Rattle.std.specs.FinMap.Entries.{below_all}
 use Rattle.ck_model.specs.declared.checkpoint.Fileset.{Fileset}
-use Rattle.ck_model.specs.Table.{Table, column, newer}
-use Rattle.ck_model.specs.Rules.{first_holder}
-use Rattle.ck_model.proofs.Filesets.{above}
 use Rattle.ck_model.specs.declared.key.Key.{Key}
 use Rattle.ck_model.specs.declared.held.Held.{Held}
+use Rattle.ck_model.specs.Table.{Table, column, newer}
+use Rattle.ck_model.specs.Rules.{first_holder}
+use Rattle.ck_model.specs.Placed.{above}
 use Rattle.ck_model.specs.Key.{key_cmp, key_cmp_total, key_cmp_exact}
 use Rattle.ck_model.specs.contracts.key.KeyOrd.TheImpl.{ghosts}
 use Rattle.ck_model.specs.contracts.key.KeyPartialEq.TheImpl as same

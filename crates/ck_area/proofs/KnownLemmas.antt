@@ -12,7 +12,7 @@ use Rattle.ck_model.specs.declared.checkpoint.Fileset.{Fileset}
 use Rattle.ck_model.specs.Key.{key_cmp, entry_cmp, entry_cmp_total}
 use Rattle.ck_model.specs.World.{keeps_files}
 use Rattle.ck_model.specs.contracts.key.KeyOrd.TheImpl.{ghosts}
-use Rattle.ck_model.proofs.ValuesOf.{tied_entry}
+use Rattle.ck_model.proofs.ValueLaws.{tied_entry}
 use Rattle.ck_record.specs.declared.records.Record.{Record}
 use Rattle.ck_area.specs.Area.{Area, entries_by, entries_in, filesets_by, filesets_in}
 use Rattle.ck_area.specs.Damage.{data_upto}
@@ -83,16 +83,6 @@ entry_at_home filesets gs other held fs key home =
           let same : fs ≡ gs = ap (λ x. x.0) (tied_entry (fs, key) (gs, other) tied) in
           sym (ap (λ b. cond b (Some held) None) (ap (is_home filesets) same ∙ home))
       | false ↦ λ apart. sym (same_none (is_home filesets fs))
-    ] refl
-
-pub entry_abroad : (filesets : ℕ → Option Fileset) (gs : ℕ) (other : Key) (held : Held) (fs : ℕ) (key : Key) → is_home filesets gs ≡ false
-    → found_at_home filesets (((gs, other), held) ∷ []) fs key ≡ None
-entry_abroad filesets gs other held fs key abroad =
-    elim (eq_by_cmp entry_cmp (fs, key) (gs, other)) as (λ b. eq_by_cmp entry_cmp (fs, key) (gs, other) ≡ b → cond (is_home filesets fs) (cond b (Some held) None) None ≡ None) [
-      | true ↦ λ tied.
-          let same : fs ≡ gs = ap (λ x. x.0) (tied_entry (fs, key) (gs, other) tied) in
-          ap (λ b. cond b (Some held) None) (ap (is_home filesets) same ∙ abroad)
-      | false ↦ λ apart. same_none (is_home filesets fs)
     ] refl
 
 -- ---- an entry that is added where none stands

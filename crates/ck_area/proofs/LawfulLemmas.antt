@@ -20,7 +20,7 @@ use Rattle.ck_model.specs.Table.{Table, IsTable, column, newer}
 use Rattle.ck_model.specs.World.{keeps_files}
 use Rattle.ck_model.specs.Chain.{is_live, is_gone, is_live_data, live_ids, keeps_data}
 use Rattle.ck_model.specs.Rules.{IsSound, IsOwn, KeyBelow, HeldBelow, first_holder, stamp_in, block_in}
-use Rattle.ck_model.proofs.CellsLemmas.{tied-is}
+use Rattle.ck_model.proofs.CellLaws.{tied-is}
 use Rattle.ck_area.specs.Damage.{is_alike, has_place, has_version, has_block, has_fileset, live_count, is_id_past, is_number_past, number_in, node_in, data_upto, is_absent, is_needed_by, is_misplaced, breaks_lower, breaks_whole}
 use Rattle.ck_area.proofs.Fronts.{Each, Among, none_of, passes_none, none_passes, each_where, among_left, among_right, among_map, among_filter, sorted_found, sorted_apart}
 use Rattle.ck_area.proofs.SlotsLemmas.{EntryFine, FilesetFine}

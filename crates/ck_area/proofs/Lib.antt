@@ -1,12 +1,12 @@
-pub mod OneArea
+pub mod AreaLaws
 pub mod Fronts
 pub mod SlotsLemmas
 pub mod UndamagedLemmas
-pub mod TableOf
+pub mod TableLaws
 pub mod LawfulLemmas
-pub mod WrittenLemmas
-pub mod NewTable
-pub mod NewWorld
+pub mod WrittenLaws
+pub mod NewTableLaws
+pub mod NewWorldLaws
 pub mod DamagedLemmas
 pub mod SlotLemmas
 pub mod ReadingLemmas

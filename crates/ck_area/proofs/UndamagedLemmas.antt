@@ -26,7 +26,7 @@ use Rattle.ck_model.specs.Table.{Table, column, newer}
 use Rattle.ck_model.specs.World.{keeps_files}
 use Rattle.ck_model.specs.Chain.{is_live, is_gone, is_live_data, live_ids, keeps_data}
 use Rattle.ck_model.specs.Rules.{IsOrderly, IsSound, IsOwn, KeyBelow, HeldBelow, first_holder, stamp_in, block_in}
-use Rattle.ck_model.proofs.Sizes.{len-retain_keys, len-insert-le}
+use Rattle.ck_model.proofs.SizeLaws.{len-retain_keys, len-from_entries-le}
 use Rattle.ck_area.specs.Damage.{is_alike, has_place, has_version, has_block, has_fileset, live_count, is_id_past, is_stamp_past, is_number_past, number_in, node_in, data_upto, is_absent, is_needed_by, is_misplaced}
 use Rattle.ck_area.proofs.Fronts.{Each, Among, Before, neither, passes_none, none_passes, each_then, each_among, one_or_apart, found_among, among_found}
 use Rattle.ck_area.proofs.SlotsLemmas.{EntryFine, FilesetFine}
@@ -113,11 +113,6 @@ filter_keys p (e ∷ es) =
     ]
 
 module _ {K X : Type 0} {R : K → K → Ordering} (total : IsTotalOrder R) (exact : IsAntisymmetric R) where
-  -- a map has no more entries than the list that it is made from
-  pub len-from_entries-le : (es : List (K × X)) → map.len (map.from_entries {R = R} es) ≤ length es
-  len-from_entries-le [] = let none = map.len-empty R X in omega (arith, none)
-  len-from_entries-le (e ∷ es) = omega (arith, len-insert-le total exact (map.from_entries es) e.0 e.1, len-from_entries-le es)
-
   -- to keep some keys of a map is to make it from the entries with those
   pub retain_keys-from_entries : (p : K → Bool) (es : List (K × X)) → map.retain_keys (map.from_entries {R = R} es) p ≡ map.from_entries (filter (λ e. p e.0) es)
   retain_keys-from_entries p es =

@@ -1,7 +1,8 @@
 -- The slots of a table's blocks: which record each has, and the table that they make.
-use Rattle.std.specs.Prelude.{◌≡◌, ◌≢◌, ◌<◌, ◌*◌, ◌/◌, ◌%◌, ℕ, List, [], ◌∷◌, ◌++◌, Option, Some, None, length, take, drop, slice_index, slice_get, get_or, replicate, map as list_map, ◌-◌, ◌+◌}
-use Rattle.std.specs.Option.{option_and_then, unwrap_or}
+use Rattle.std.specs.Prelude.{◌≡◌, ◌≢◌, ◌<◌, ◌*◌, ◌/◌, ◌%◌, ℕ, List, [], ◌∷◌, ◌++◌, Option, Some, None, length, take, drop, get_or, replicate, map as list_map, ◌-◌, ◌+◌, IfSome}
+use Rattle.std.specs.Option.{unwrap_or}
 use Rattle.std.specs.FinMap as map
+use Rattle.std.specs.List.{AllByRecursion}
 use Rattle.ck_model.specs.declared.key.Key.{Key}
 use Rattle.ck_model.specs.declared.key.Key.TheVariants.{Node}
 use Rattle.ck_model.specs.declared.held.Held.{Held}
@@ -108,3 +109,22 @@ new_table blocks records = record {
   blocks = blocks;
   records = records;
 }
+
+-- each slot that has a record has one within the limits
+abbrev pub AreRecords : Area → Type 0
+AreRecords = AllByRecursion (λ x. IfSome x IsRecord)
+
+-- ---- the parts of an area
+
+abbrev pub fileset_slots : List (ℕ × Fileset) → Area
+fileset_slots filesets = list_map (λ value. Some value) (list_map (λ e. FilesetRecord e.0 e.1) filesets)
+
+abbrev pub entry_slots : List ((ℕ × Key) × Held) → Area
+entry_slots entries = list_map (λ value. Some value) (list_map (λ e. Entry e.0.0 e.0.1 e.1) entries)
+
+abbrev pub free_slots : ℕ → Area
+free_slots count = replicate count (Some Free)
+
+-- how many slots are left free
+abbrev pub left_free : ℕ → Table → ℕ
+left_free slots t = slots - (1 + length (records_of t))

@@ -11,10 +11,10 @@ use Rattle.ck_model.specs.declared.held.Held.TheVariants.{Absent, Plain, Extent,
 use Rattle.ck_model.specs.Table.{Table, column, newer, written}
 use Rattle.ck_model.specs.Chain.{first_entry, is_gone, present}
 use Rattle.ck_model.specs.Rules.{IsOrderly, first_holder, stamp_in}
+use Rattle.ck_model.proofs.CaseLaws.{and_right, some_same}
 use Rattle.ck_chain.specs.Needless.{is_absent, is_needless, says_nothing, tidied, SaysSame}
-use Rattle.ck_chain.proofs.Basics.{and_right, some_same}
-use Rattle.ck_chain.proofs.Columns.{column-with_entry}
-use Rattle.ck_chain.proofs.Holders.{entry_of_holder, holder_above, needless_same, none_holder}
+use Rattle.ck_chain.proofs.ColumnLaws.{column-with_entry}
+use Rattle.ck_chain.proofs.HolderLaws.{entry_of_holder, holder_above, needless_same, none_holder}
 
 from_primary : (o : Option Held) (h : ℕ × Held) → option_map (λ entry. (0, entry)) o ≡ Some h → (o ≡ Some h.1) × (h.0 ≡ 0)
 from_primary None h e = cc

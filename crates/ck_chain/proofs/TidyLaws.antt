@@ -8,10 +8,10 @@ use Rattle.ck_model.specs.declared.held.Held.TheVariants.{Absent, Extent}
 use Rattle.ck_model.specs.Table.{Table, column, with_entry, written, record_count}
 use Rattle.ck_model.specs.Chain.{seen}
 use Rattle.ck_chain.specs.Needless.{is_needless, tidied}
-use Rattle.ck_chain.proofs.Columns.{column-with_entry, column-with_entry_other, same_or_other}
-use Rattle.ck_chain.proofs.Laws.{tidy_reads}
-use Rattle.ck_chain.proofs.Counts.{record_count-with_entry}
-use Rattle.ck_chain.proofs.Holders.{needless_absent, needless_same}
+use Rattle.ck_chain.proofs.ColumnLaws.{column-with_entry, column-with_entry_other, same_or_other}
+use Rattle.ck_chain.proofs.ReadLaws.{tidy_reads}
+use Rattle.ck_chain.proofs.CountLaws.{record_count-with_entry}
+use Rattle.ck_chain.proofs.HolderLaws.{needless_absent, needless_same}
 
 -- what every checkpoint's reader sees
 pub tidied_reads : (t : Table) (f : ℕ) (key : Key) → 0 < f → IsSome (map.get t.filesets f) → (fs : ℕ) (q : Key) → 0 < fs → seen (tidied t f key) fs q ≡ seen t fs q

@@ -1,9 +1,10 @@
 -- The keys behind a key, in their order.
-use Rattle.std.specs.Prelude.{◌≡◌, ℕ, Bool, true, false, Option, Some, None, IfSome, IsSome}
+use Rattle.std.specs.Prelude.{◌≡◌, ℕ, Bool, true, false, Option, Some, None, IfSome, IsSome, suc, filter, length}
 use Rattle.std.specs.Ordering.{is_lt}
 use Rattle.ck_model.specs.declared.key.Key.{Key}
 use Rattle.ck_model.specs.Key.{key_cmp}
 use Rattle.ck_model.specs.Table.{Table, column}
+use Rattle.ck_model.specs.Standing.{keys_of}
 
 -- all keys are behind no key at all
 abbrev pub is_after : Option Key → Key → Bool
@@ -24,3 +25,12 @@ pub record IsNext (t : Table) (passes : Key → Bool) (after : Option Key) (next
   pub behind : IfSome next (λ k. is_after after k ≡ true)
   pub held : IfSome next (IsHeld t)
   pub between : (q : Key) → is_after after q ≡ true → is_before next q ≡ true → passes q ≡ false
+
+-- a key behind another
+abbrev pub is_behind : Key → Key → Bool
+is_behind key q = is_lt (key_cmp key q)
+
+-- the key itself and those of the table that are behind it
+abbrev pub keys_left : Table → Option Key → ℕ
+keys_left t None = 0
+keys_left t (Some key) = suc (length (filter (is_behind key) (keys_of t)))

@@ -3,3 +3,4 @@ pub mod Kept
 pub mod Naming
 pub mod Changes
 pub mod Following
+pub mod Fits

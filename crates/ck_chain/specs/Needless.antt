@@ -1,5 +1,5 @@
 -- Which entries of checkpoints can go, since the newer filesets say the same.
-use Rattle.std.specs.Prelude.{◌≡◌, ℕ, Bool, true, false, ◌&&◌, not, Option, Some, None, IfSome, if◌then◌else◌}
+use Rattle.std.specs.Prelude.{◌≡◌, ℕ, Bool, true, false, ◌&&◌, not, Option, Some, None, IfSome, if◌then◌else◌, ◌≢◌, ◌<◌, ◌⊎◌, IsSomeAnd, nat_lt}
 use Rattle.ck_model.specs.declared.key.Key.{Key}
 use Rattle.ck_model.specs.declared.held.Held.{Held}
 use Rattle.ck_model.specs.declared.held.Held.TheVariants.{Absent, Plain, Extent, Mark}
@@ -32,3 +32,18 @@ pub record SaysSame (t : Table) (fs : ℕ) (key : Key) : Type 0 where
 -- the table without the entry, where it is needless
 abbrev pub tidied : Table → ℕ → Key → Table
 tidied t fs key = record t { entries = if is_needless t fs key then written t.entries fs key None else t.entries }
+
+-- the next newer entry says something, or stands in a checkpoint that is gone
+abbrev pub Says : Table → Option (ℕ × Held) → Type 0
+Says t holder = IsSomeAnd holder (λ h. (is_gone t h.0 ≡ true) ⊎ (h.1 ≢ Absent))
+
+-- the first of the filesets above a number that has an entry
+pub record FirstAbove (c : ℕ → Option Held) (fs : ℕ) (holder : Option (ℕ × Held)) : Type 0 where
+  pub at : ℕ
+  pub held : Held
+  pub more : fs < at
+  pub has : c at ≡ Some held
+  pub is : holder ≡ Some (at, held)
+
+abbrev pub in_between : ℕ → ℕ → ℕ → Bool
+in_between low high id = nat_lt low id && nat_lt id high

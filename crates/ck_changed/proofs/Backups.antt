@@ -15,8 +15,8 @@ use Rattle.ck_model.specs.Streams.{changed, image}
 use Rattle.ck_model.specs.Table.{Table}
 use Rattle.ck_model.specs.Values.{Store, cells_on}
 use Rattle.ck_model.specs.World.{shown_by, keeps_files}
-use Rattle.ck_model.proofs.CellsLemmas.{find-values, is_sorted-values}
-use Rattle.ck_model.proofs.StreamsLemmas.{changed-marked, find-changed, is_sorted-changed, find-image, is_sorted-image}
+use Rattle.ck_model.proofs.CellLaws.{find-values, is_sorted-values}
+use Rattle.ck_model.proofs.StreamLaws.{changed-marked, find-changed, is_sorted-changed, find-image, is_sorted-image}
 use Rattle.ck_changed.specs.Turning.{rest_after}
 
 -- ---- the frozen maps

@@ -1,5 +1,5 @@
 -- Only where a fileset from the older checkpoint up to the newer one has an entry can the two differ.
-use Rattle.std.proofs.Common.{◌≡◌, ℕ, ◌<◌, ◌≤◌, Bool, true, false, cond, not, List, [], ◌∷◌, ◌++◌, filter, Option, Some, None, is_some, IfSome, IsSome, nat_eq, refl, sym, ap, ◌∙◌, ◌⊎◌, inl, inr, arith}
+use Rattle.std.proofs.Common.{◌≡◌, ℕ, ◌<◌, ◌≤◌, true, false, cond, List, [], ◌∷◌, ◌++◌, filter, Option, Some, None, is_some, IfSome, IsSome, refl, sym, ap, ◌∙◌, ◌⊎◌, inl, inr, arith}
 use Rattle.std.specs.Option.{option_or}
 use Rattle.std.specs.FinMap as map
 use mathlib.Core.Bool.{false≢true}
@@ -8,7 +8,8 @@ use Rattle.ck_model.specs.declared.key.Key.{Key}
 use Rattle.ck_model.specs.declared.held.Held.{Held}
 use Rattle.ck_model.specs.Table.{Table, newer, column}
 use Rattle.ck_model.specs.Chain.{first_entry, present, value_of}
-use Rattle.ck_chain.proofs.Newer.{newer_split, in_between}
+use Rattle.ck_chain.specs.Needless.{in_between}
+use Rattle.ck_chain.proofs.NewerLaws.{newer_split}
 use Rattle.ck_changed.specs.Differing.{values_differ, EntryBetween}
 
 -- ---- the test

@@ -18,14 +18,14 @@ use Rattle.ck_model.specs.Chain.{present, value_of}
 use Rattle.ck_model.specs.Values.{Store, cell_on, cells_on}
 use Rattle.ck_model.specs.Standing.{values_of}
 use Rattle.ck_model.specs.Streams.{changed}
-use Rattle.ck_model.proofs.Rows.{both_of}
-use Rattle.ck_model.proofs.ValuesOf.{get-values_of, get-cells_on}
-use Rattle.ck_model.proofs.StreamsLemmas.{find-changed, is_sorted-changed}
-use Rattle.ck_chain.proofs.Columns.{same_or_other}
-use Rattle.ck_chain.specs.Following.{is_after, is_before}
+use Rattle.ck_model.proofs.CaseLaws.{both_of}
+use Rattle.ck_model.proofs.ValueLaws.{get-values_of, get-cells_on}
+use Rattle.ck_model.proofs.StreamLaws.{find-changed, is_sorted-changed}
+use Rattle.ck_chain.specs.Following.{is_after, is_before, is_behind}
+use Rattle.ck_chain.proofs.ColumnLaws.{same_or_other}
+use Rattle.ck_chain.proofs.KeyOrderLaws.{after-trans, same_or_before}
 use Rattle.ck_changed.specs.Differing.{version, values_differ, value_from, differs_at, IsNextDifference}
 use Rattle.ck_changed.specs.Turning.{cells_from, content_on, rest_after}
-use Rattle.ck_chain.proofs.KeyOrder.{is_behind, after-trans, same_or_before}
 
 of_true : (b : Bool) → b ≡ true → T b
 of_true true h = tt

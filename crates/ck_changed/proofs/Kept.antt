@@ -13,9 +13,10 @@ use Rattle.ck_model.specs.World.{keeps_files}
 use Rattle.ck_model.specs.Table.{Table, IsTable, newer, column}
 use Rattle.ck_model.specs.Chain.{first_entry, present, value_of, keeps_data, is_live_data}
 use Rattle.ck_model.specs.Rules.{IsOrderly, IsOwn, block_in}
-use Rattle.ck_chain.proofs.Newer.{newer_split, in_between}
-use Rattle.ck_chain.proofs.Laws.{keeps_newer, each_above}
-use Rattle.ck_chain.proofs.Orderly.{positive_id}
+use Rattle.ck_chain.specs.Needless.{in_between}
+use Rattle.ck_chain.proofs.NewerLaws.{newer_split}
+use Rattle.ck_chain.proofs.ReadLaws.{keeps_newer, each_above}
+use Rattle.ck_chain.proofs.OrderlyLaws.{positive_id}
 
 -- ---- a live data checkpoint keeps data
 

@@ -9,8 +9,8 @@ use Rattle.ck_model.specs.Standing.{values_of}
 use Rattle.ck_model.specs.Streams.{changed}
 use Rattle.ck_model.specs.Table.{Table, IsTable}
 use Rattle.ck_model.specs.Values.{Store, cells_on}
-use Rattle.ck_chain.proofs.Basics.{not_false}
-use Rattle.ck_chain.proofs.Orderly.{positive_id}
+use Rattle.ck_model.proofs.CaseLaws.{not_false}
+use Rattle.ck_chain.proofs.OrderlyLaws.{positive_id}
 use Rattle.ck_changed.specs.declared.turning.Next.{Next}
 use Rattle.ck_changed.specs.declared.turning.Next.TheVariants.{Gone, NoData}
 use Rattle.ck_changed.specs.Differing.{IsNextDifference}

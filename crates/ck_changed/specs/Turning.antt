@@ -2,7 +2,6 @@
 use Rattle.std.specs.Prelude.{◌≡◌, ⊤, ◌+◌, ℕ, ◌&&◌, not, List, [], ◌∷◌, Option, Some, None, filter, nat_eq, get_or, if◌then◌else◌}
 use Rattle.std.specs.Option.{option_map}
 use Rattle.std.specs.FinMap as map
-use Rattle.ck_disk.specs.Disk.{Image, Meaning, Step, Within, Rose, KeepsClean}
 use Rattle.ck_model.specs.declared.key.Key.{Key}
 use Rattle.ck_model.specs.declared.cell.Cell.{Cell}
 use Rattle.ck_model.specs.declared.held.Held.{Held}
@@ -11,9 +10,10 @@ use Rattle.ck_model.specs.Chain.{is_live, is_live_data}
 use Rattle.ck_model.specs.Standing.{values_of}
 use Rattle.ck_model.specs.Table.{Table}
 use Rattle.ck_model.specs.Values.{Store, cell_on, cells_on}
+use Rattle.ck_disk.specs.Disk.{Image, Meaning, Rose}
+use Rattle.ck_chain.specs.Following.{is_after}
 use Rattle.ck_changed.specs.declared.turning.Next.{Next}
 use Rattle.ck_changed.specs.declared.turning.Next.TheVariants.{Put, Removed, End, Gone, NoData, ReadFault, NoMemory}
-use Rattle.ck_chain.specs.Following.{is_after}
 
 -- what the data blocks hold where this one is the first of them
 abbrev pub store_on : Image → ℕ → Store
@@ -66,10 +66,3 @@ IsAnswer old new (Gone id) = ⊥
 IsAnswer old new (NoData id) = ⊥
 IsAnswer old new ReadFault = Rose old.read_faults new.read_faults
 IsAnswer old new NoMemory = ⊤
-
--- nothing is written
-pub record OnlyReads (old new : Meaning) : Type 0 where
-  pub shows : new.shows ≡ old.shows
-  pub crash : Within new.may_leave old.may_leave
-  pub marks : KeepsClean old.written new.written
-  pub step : Step old new

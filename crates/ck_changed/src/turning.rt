@@ -7,15 +7,8 @@ ghost use Rattle.ck_model.specs.Standing.{values_of};
 ghost use Rattle.ck_model.specs.Streams.{changed};
 ghost use Rattle.ck_model.specs.Values.{cell_on, cells_on, payload_of, Store};
 ghost use Rattle.ck_changed.specs.declared.turning.LoadFault.TheVariants as load;
-ghost use Rattle.ck_changed.specs.Turning.{
-  after_of,
-  cells_from,
-  IsAnswer,
-  IsNextOf,
-  OnlyReads,
-  refusal_of,
-  store_on,
-};
+ghost use Rattle.ck_changed.specs.Turning.{after_of, cells_from, IsAnswer, IsNextOf, refusal_of, store_on};
+ghost use Rattle.ck_disk.specs.Runs.{OnlyReads};
 
 use crate::comparing::next_difference;
 use ck_disk::Disk;

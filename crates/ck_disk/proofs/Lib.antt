@@ -1,4 +1,5 @@
-pub mod Moments
+pub mod MomentLaws
 pub mod Steps
 pub mod Tearing
 pub mod Losing
+pub mod RunLaws

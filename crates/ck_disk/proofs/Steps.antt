@@ -4,7 +4,7 @@ use Rattle.std.proofs.lemmas.List.{length-set, set-get_or, take-append-le, drop-
 use Rattle.std.proofs.lemmas.Bool.{cases_eq, cases_lt}
 use Rattle.std.proofs.lemmas.Bool.Decides.{nat_tests}
 use Rattle.ck_disk.specs.Disk.{Image, Step, TearsAt, Within, Only, KeepsCleanBut}
-use Rattle.ck_disk.proofs.Moments.{torn_same}
+use Rattle.ck_disk.proofs.MomentLaws.{torn_same}
 use Rattle.ck_disk.specs.declared.mem_disk.MemStep.{MemStep}
 use Rattle.ck_disk.specs.declared.mem_disk.MemStep.TheVariants.{Write, Sync}
 use Rattle.ck_disk.specs.MemRecord.{undone, is_written, IsLeft, mem_means}

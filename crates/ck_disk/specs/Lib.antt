@@ -7,3 +7,4 @@ pub mod MemRecord
 pub mod MemLaws
 pub mod MemDisk
 pub mod Silent
+pub mod Runs

@@ -1,4 +1,5 @@
 pub mod Later
+pub mod Both
 pub mod Rounds
 pub mod TooLong
 pub mod Told

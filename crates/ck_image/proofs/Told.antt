@@ -81,5 +81,6 @@ pub line_refused : (why : Refusal) (read : Result Stream Refusal) → told read 
 line_refused why (Ok s) h = absurd cc
 line_refused (refusal.Stream f) (Err g) h = cc
 line_refused (refusal.WrongBase has wants) (Err g) h = cc
+line_refused (refusal.NotAdjacent ends begins) (Err g) h = cc
 line_refused refusal.TooLong (Err g) h = cc
 line_refused refusal.NoMemory (Err g) h = tt

@@ -2,12 +2,13 @@
 use Rattle.std.proofs.Common.{◌≡◌, ℕ, ◌+◌, true, List, ◌++◌, length, length-append, Err, refl, ap, arith}
 use Rattle.std.specs.Prelude.{IsTrue, nat_lt}
 use Rattle.std.proofs.lemmas.Bool.Decides.{Decides-ltb}
+use Rattle.ck_model.specs.Limits.{input_limit}
 use Rattle.ck_io.specs.Source.{SourceMeaning}
 use Rattle.ck_report.specs.declared.status.Status.{Status}
 use Rattle.ck_report.specs.declared.status.Status.TheVariants.{Done, Refused, Usage, BadScript, NotOpened, DeviceFault, SourceFault, SinkFault, NoMemory}
 use Rattle.ck_image.specs.declared.refusal.Refusal.TheVariants as refusal
 use Rattle.ck_image.specs.declared.command.Command.{Command}
-use Rattle.ck_image.specs.Texts.{input_limit, printed}
+use Rattle.ck_image.specs.Texts.{printed}
 use Rattle.ck_image.specs.Top.{IsRefused, IsReadFault}
 
 refuses : (command : Command) (bytes rest left : List ℕ) → left ≡ bytes ++ rest → length bytes ≡ input_limit + 1 → printed command left ≡ Err refusal.TooLong

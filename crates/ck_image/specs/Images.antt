@@ -1,5 +1,5 @@
--- What the streams in an input come to: one stream, or a full stream with changed ones applied to it.
-use Rattle.std.specs.Prelude.{◌≡◌, ℕ, zero, suc, List, [], ◌∷◌, length, Some, None, Result, Ok, Err, nat_eq, if◌then◌else◌, ⊤}
+-- What the streams in an input come to: one stream, a full stream with changed ones applied to it, or changed ones as one.
+use Rattle.std.specs.Prelude.{◌≡◌, ℕ, zero, suc, List, [], ◌∷◌, length, map as list_map, Some, None, Result, Ok, Err, nat_eq, if◌then◌else◌, ⊤}
 use Rattle.ck_model.specs.declared.key.Key.{Key}
 use Rattle.ck_model.specs.Cells.{Content}
 use Rattle.ck_model.specs.Streams.{applied}
@@ -15,6 +15,8 @@ use Rattle.ck_stream.specs.declared.stream.Summary.{Summary}
 use Rattle.ck_stream.specs.Right.{contents, changes}
 use Rattle.ck_stream.specs.Reading.{◌>>=◌, stream_at}
 use Rattle.ck_stream.specs.Seen.{summary_of}
+use Rattle.ck_stream.specs.Texts.{change_for}
+use Rattle.ck_merge.specs.Merged.{merged}
 use Rattle.ck_image.specs.declared.refusal.Refusal.{Refusal}
 use Rattle.ck_image.specs.declared.refusal.Refusal.TheVariants as refusal
 
@@ -22,6 +24,7 @@ use Rattle.ck_image.specs.declared.refusal.Refusal.TheVariants as refusal
 abbrev pub HasRefusal : {Y : Type 0} → Refusal → Result Y Refusal → Type 0
 HasRefusal (refusal.Stream why) read = read ≡ Err (refusal.Stream why)
 HasRefusal (refusal.WrongBase has wants) read = read ≡ Err (refusal.WrongBase has wants)
+HasRefusal (refusal.NotAdjacent ends begins) read = read ≡ Err (refusal.NotAdjacent ends begins)
 HasRefusal refusal.TooLong read = read ≡ Err refusal.TooLong
 HasRefusal refusal.NoMemory read = ⊤
 
@@ -59,6 +62,15 @@ whole_in bytes = stream_in bytes 0 >>= λ read. all_of bytes read
 -- what is told of it
 abbrev pub told : Result Stream Refusal → Result Summary Refusal
 told read = read >>= λ s. Ok (summary_of s)
+
+-- ---- one stream after the other
+
+-- what a step makes of the streams from a place up to the input's end, of which there are at most so many: each has bytes
+unfoldable pub to_end : {A : Type 0} → (A → ℕ → Result (A × ℕ) Refusal) → ℕ → List ℕ → A → ℕ → Result A Refusal
+to_end step zero bytes made at = Ok made
+to_end step (suc n) bytes made at =
+    if nat_eq at (length bytes) then Ok made
+    else (step made at >>= λ next. to_end step n bytes next.0 next.1)
 
 -- ---- a full stream, and changed ones behind it
 
@@ -103,12 +115,33 @@ next_in bytes full at = do
   new ← applied_once full read.0
   Ok (new, read.1)
 
--- the changed streams up to the input's end, of which there are at most so many: each has bytes
-unfoldable pub changes_in : ℕ → List ℕ → Full → ℕ → Result Full Refusal
-changes_in zero bytes full at = Ok full
-changes_in (suc n) bytes full at =
-    if nat_eq at (length bytes) then Ok full
-    else (next_in bytes full at >>= λ next. changes_in n bytes next.0 next.1)
+abbrev pub changes_in : ℕ → List ℕ → Full → ℕ → Result Full Refusal
+changes_in n bytes full at = to_end (next_in bytes) n bytes full at
 
 unfoldable pub applied_in : List ℕ → Result Full Refusal
 applied_in bytes = full_in bytes >>= λ first. changes_in (length bytes) bytes first.0 first.1
+
+-- ---- changed streams alone
+
+-- the changes of both, from where the first ones begin to where the second ones end
+abbrev pub both : Changed → Changed → Changed
+both first second = record {
+  from = first.from;
+  to = second.to;
+  items = list_map (λ e. change_for e.0 e.1) (merged (changes first.items) (changes second.items));
+}
+
+-- the second ones must begin where the first ones end
+unfoldable pub merged_once : Changed → Changed → Result Changed Refusal
+merged_once first second =
+    if nat_eq first.to second.from then Ok (both first second)
+    else Err (refusal.NotAdjacent first.to second.from)
+
+unfoldable pub next_merged : List ℕ → Changed → ℕ → Result (Changed × ℕ) Refusal
+next_merged bytes all at = do
+  read ← changed_in bytes at
+  new ← merged_once all read.0
+  Ok (new, read.1)
+
+unfoldable pub merged_in : List ℕ → Result Changed Refusal
+merged_in bytes = changed_in bytes 0 >>= λ first. to_end (next_merged bytes) (length bytes) bytes first.0 first.1

@@ -2,6 +2,7 @@
 use Rattle.std.specs.Prelude.{ℕ, List, [], ◌∷◌, ◌++◌, length, Result, Ok, Err, nat_lt, if◌then◌else◌, codes}
 use Rattle.std.specs.Fmt.{decimal}
 use Rattle.hex.specs.Hex.{encode_lower}
+use Rattle.ck_model.specs.Limits.{input_limit}
 use Rattle.ck_stream.specs.declared.fault.StreamFault.{StreamFault}
 use Rattle.ck_stream.specs.declared.fault.StreamFault.TheVariants as fault
 use Rattle.ck_stream.specs.declared.stream.Stream.{Stream}
@@ -14,8 +15,8 @@ use Rattle.ck_stream.specs.Reading.{◌>>=◌}
 use Rattle.ck_image.specs.declared.refusal.Refusal.{Refusal}
 use Rattle.ck_image.specs.declared.refusal.Refusal.TheVariants as refusal
 use Rattle.ck_image.specs.declared.command.Command.{Command}
-use Rattle.ck_image.specs.declared.command.Command.TheVariants.{Verify, Apply}
-use Rattle.ck_image.specs.Images.{whole_in, applied_in}
+use Rattle.ck_image.specs.declared.command.Command.TheVariants.{Verify, Apply, Merge}
+use Rattle.ck_image.specs.Images.{whole_in, applied_in, merged_in}
 
 -- a space, and a number or bytes in hexadecimal
 abbrev pub number_words : ℕ → List ℕ
@@ -52,6 +53,7 @@ fault_words fault.NoMemory = []
 abbrev pub refusal_words : Refusal → List ℕ
 refusal_words (refusal.Stream why) = fault_words why
 refusal_words (refusal.WrongBase has wants) = codes "WrongBase" ++ number_words has ++ number_words wants
+refusal_words (refusal.NotAdjacent ends begins) = codes "NotAdjacent" ++ number_words ends ++ number_words begins
 refusal_words refusal.TooLong = codes "TooLong 1073741824"
 refusal_words refusal.NoMemory = []
 
@@ -59,10 +61,7 @@ refusal_words refusal.NoMemory = []
 abbrev pub made_of : Command → List ℕ → Result (List ℕ) Refusal
 made_of Verify bytes = whole_in bytes >>= λ s. Ok (stream_line s)
 made_of Apply bytes = applied_in bytes >>= λ full. Ok (text (stream.Full full))
-
--- an input may have so many bytes
-abbrev pub input_limit : ℕ
-input_limit = 1073741824
+made_of Merge bytes = merged_in bytes >>= λ changed. Ok (text (stream.Changed changed))
 
 -- what a command prints, or why it refuses its input
 unfoldable pub printed : Command → List ℕ → Result (List ℕ) Refusal

@@ -11,7 +11,7 @@ use Rattle.ck_report.specs.Status.{status_line}
 use Rattle.ck_image.specs.declared.refusal.Refusal.{Refusal}
 use Rattle.ck_image.specs.declared.refusal.Refusal.TheVariants as refusal
 use Rattle.ck_image.specs.declared.command.Command.{Command}
-use Rattle.ck_image.specs.declared.command.Command.TheVariants.{Verify, Apply}
+use Rattle.ck_image.specs.declared.command.Command.TheVariants.{Verify, Apply, Merge}
 use Rattle.ck_image.specs.Texts.{refusal_words, printed}
 
 -- ---- words
@@ -20,6 +20,7 @@ abbrev pub command_word : List ℕ → Option Command
 command_word word =
     if pointwise nat_eq word (codes "verify") then Some Verify
     else if pointwise nat_eq word (codes "apply") then Some Apply
+    else if pointwise nat_eq word (codes "merge") then Some Merge
     else None
 
 -- the one word of a command

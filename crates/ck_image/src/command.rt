@@ -5,4 +5,6 @@ pub enum Command {
     Verify,
     /// Changed streams are applied to the full stream before them.
     Apply,
+    /// Changed streams that follow one another become one.
+    Merge,
 }

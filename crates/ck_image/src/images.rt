@@ -74,7 +74,7 @@ fn full_of(alloc: Global, bytes: &[u8]) -> Result<(Full, usize), Refusal>
 }
 
 #[tactic(auto, unfolding(crate::specs::Images::changed_in))]
-fn changed_of(alloc: Global, bytes: &[u8], at: usize) -> Result<(Changed, usize), Refusal>
+pub fn changed_of(alloc: Global, bytes: &[u8], at: usize) -> Result<(Changed, usize), Refusal>
     requires { at ≤ length bytes.now }
     ensures read { Answers (λ read. read) result (changed_in bytes.now at) }
     ensures right { IfOk result (λ read. IsChanged read.0) }

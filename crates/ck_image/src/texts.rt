@@ -1,13 +1,14 @@
 ghost use Rattle.std.specs.Prelude.{◌≡◌, ◌++◌, OnOk, IfOk};
-ghost use Rattle.ck_image.specs.declared.command.Command.TheVariants.{Verify, Apply};
+ghost use Rattle.ck_image.specs.declared.command.Command.TheVariants.{Verify, Apply, Merge};
 ghost use Rattle.ck_image.specs.Images.{Answers};
 ghost use Rattle.ck_image.specs.Texts.{number_words, digest_words, header_words, summary_line, fault_words, refusal_words, made_of, printed};
 
 use crate::command::Command;
 use crate::images::{applied, whole};
+use crate::merges::merged;
 use crate::refusal::Refusal;
 use ck_model::NoMemory;
-use ck_stream::{Header, StreamFault, Summary, write_full};
+use ck_stream::{Header, StreamFault, Summary, write_changed, write_full};
 use ck_text::{put_decimal, put_hex};
 use std::alloc::Global;
 
@@ -91,6 +92,11 @@ fn put_refusal(out: &mut Vec<u8>, refusal: &Refusal) -> Result<(), NoMemory>
             put_number(out, u64::from(*has))?;
             put_number(out, u64::from(*wants))
         }
+        Refusal::NotAdjacent { ends, begins } => {
+            put(out, b"NotAdjacent")?;
+            put_number(out, u64::from(*ends))?;
+            put_number(out, u64::from(*begins))
+        }
         Refusal::TooLong => put(out, b"TooLong 1073741824"),
         Refusal::NoMemory => Ok(()),
     }
@@ -133,6 +139,16 @@ fn made(alloc: Global, bytes: &[u8]) -> Result<Vec<u8>, Refusal>
     }
 }
 
+fn made_one(alloc: Global, bytes: &[u8]) -> Result<Vec<u8>, Refusal>
+    ensures { Answers (λ text. text.items) result (made_of Merge bytes.now) }
+{
+    let changed = merged(alloc, bytes)?;
+    match write_changed(alloc, &changed) {
+        Ok(text) => Ok(text),
+        Err(_) => Err(Refusal::NoMemory),
+    }
+}
+
 /// What a command prints for its input.
 #[tactic(auto, unfolding(crate::specs::Texts::printed))]
 pub fn print_of(alloc: Global, command: Command, bytes: &[u8]) -> Result<Vec<u8>, Refusal>
@@ -144,5 +160,6 @@ pub fn print_of(alloc: Global, command: Command, bytes: &[u8]) -> Result<Vec<u8>
     match command {
         Command::Verify => verified(alloc, bytes),
         Command::Apply => made(alloc, bytes),
+        Command::Merge => made_one(alloc, bytes),
     }
 }

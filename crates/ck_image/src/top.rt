@@ -22,6 +22,8 @@ fn command_of(words: &[String]) -> Option<Command>
                 Some(Command::Verify)
             } else if word == "apply" {
                 Some(Command::Apply)
+            } else if word == "merge" {
+                Some(Command::Merge)
             } else {
                 None
             }
@@ -109,7 +111,7 @@ fn write_line<E: Sink>(status: &Status, err: &mut E) -> Result<(), Failed>
 
 /// Runs a command over the streams on its input: its words, its input, its output, its line on
 /// standard error. `verify` says what one stream is, `apply` applies changed streams to the full one
-/// before them.
+/// before them, `merge` makes one of changed streams that follow one another.
 pub fn image_top<S: Source, K: Sink, E: Sink>(
     alloc: Global,
     words: &[String],

@@ -2,11 +2,11 @@
 use Rattle.std.proofs.Common.{◌≡◌, ◌≢◌, ◌-◌, ◌⊎◌, inl, ⊎_elim, ◌==◌, ℕ, Bool, false, IsTrue, not, [], length, refl, sym, ◌∙◌, ap, subst}
 use Rattle.std.proofs.lemmas.Bool.{false≢true}
 use Rattle.ck_disk.specs.Disk.{Image, Meaning, Lawful, LeavesOnly, Reaches, Outside, Agrees, IsSynced}
-use Rattle.ck_disk.proofs.Moments.{weakens, joins, now, synced_only, agrees_less, agrees_on}
+use Rattle.ck_disk.proofs.MomentLaws.{leaves_more, leaves_both, leaves_now, synced_only, agrees_less, agrees_on}
 use Rattle.ck_log.specs.Layout.{Layout, table_blocks, area_at, base_of}
 use Rattle.ck_log.specs.Images.{part, table_on, HasTable, HasBefore, HasAfter, Settled}
 use Rattle.ck_log.specs.Group.{IsWhole}
-use Rattle.ck_log.proofs.Areas.{outside_area, others_gate}
+use Rattle.ck_log.proofs.AreaLaws.{outside_area, others_gate}
 use Rattle.ck_log.proofs.Phases.{staged, opened}
 
 pub told_on : (old new : Bool) → new ≡ old → IsTrue old → IsTrue new
@@ -46,7 +46,7 @@ module _ (layout : Layout) (before table : Image) (old : Meaning) (settled : IsT
 
     -- the other area is written
     pub after_run : LeavesOnly old run Either
-    after_run = weakens old run (Reaches (Outside free n) old.may_leave) Either ran (λ c from told. inl (staged layout before table old.may_leave (settled told) c (unnamed c from)))
+    after_run = leaves_more old run (Reaches (Outside free n) old.may_leave) Either (λ c from told. inl (staged layout before table old.may_leave (settled told) c (unnamed c from))) ran
 
     -- the table stands there
     pub in_area : part free n run.shows ≡ table → part (area_at layout.records (not layout.second)) (table_blocks layout.records) run.shows ≡ table
@@ -55,13 +55,13 @@ module _ (layout : Layout) (before table : Image) (old : Meaning) (settled : IsT
     -- the gate is written, to a disk whose one image has the table in that area
     pub after_gate : (gated : Meaning) → Lawful run → (IsTrue old.tells → part free n run.shows ≡ table) → (IsTrue old.tells → Agrees (Outside free n) old.shows run.shows) → IsSynced run
         → LeavesOnly run gated (Reaches (Outside 1 1) run.may_leave) → LeavesOnly old gated Either
-    after_gate gated law written stands synced more = joins old run gated Either after_run (weakens run gated (Reaches (Outside 1 1) run.may_leave) Either more (λ c from told.
+    after_gate gated law written stands synced more = leaves_both old run gated Either after_run (leaves_more run gated (Reaches (Outside 1 1) run.may_leave) Either (λ c from told.
         let told_run = told_on _ _ ran.tells told in
         opened layout before table old.may_leave (settled told) old.shows run.shows c
-        (unnamed run.shows (now old run (Reaches (Outside free n) old.may_leave) law ran run.shows (law.shown told_run)))
+        (unnamed run.shows (leaves_now old run (Reaches (Outside free n) old.may_leave) law ran run.shows (law.shown told_run)))
         (others_after_run layout (not layout.second) free n old.shows run.shows is_free long (stands told))
         (in_area (written told))
-        (subst (λ (d : Image). Agrees (Outside 1 1) d c) (synced_only run law told_run synced from.0 from.1) from.2)))
+        (subst (λ (d : Image). Agrees (Outside 1 1) d c) (synced_only run law told_run synced from.0 from.1) from.2)) more)
 
 -- a synced disk whose one image has a table is settled
 pub settles : (layout : Layout) (m : Meaning) → Lawful m → IsSynced m → (IsTrue m.tells → (blocks : Image) × HasTable layout blocks m.shows) → Settled layout m

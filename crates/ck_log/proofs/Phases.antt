@@ -1,11 +1,11 @@
 -- What the images of a commit have, before its gate is written and after.
 use Rattle.std.proofs.Common.{◌≡◌, ◌⊎◌, inl, inr, ⊎_elim, ◌<◌, ◌-◌, ◌==◌, ℕ, Bool, true, false, not, List, [], length, get_or, set, refl, sym, ◌∙◌, ap, arith, get_or-set_same}
 use Rattle.ck_disk.specs.Disk.{Image, Agrees, Outside, Reaches}
-use Rattle.ck_disk.proofs.Moments.{agrees_on, agrees_less, agrees_set}
+use Rattle.ck_disk.proofs.MomentLaws.{agrees_on, agrees_less, agrees_set}
 use Rattle.ck_log.specs.Layout.{Layout, table_blocks, area_at, base_of}
 use Rattle.ck_log.specs.Images.{part, names_second, HasTable, HasBefore, HasAfter}
 use Rattle.ck_log.proofs.Parts.{part_agrees, apart_run}
-use Rattle.ck_log.proofs.Areas.{area_low, other_area, others_area, others_gate, table_at}
+use Rattle.ck_log.proofs.AreaLaws.{area_low, other_area, others_area, others_gate, table_at}
 
 one_or_other : (x a : Bool) → (x ≡ a) ⊎ (x ≡ not a)
 one_or_other true true = inl refl

@@ -2,16 +2,16 @@
 use Rattle.std.proofs.Common.{◌≡◌, ◌≢◌, inl, inr, ⊎_elim, ◌≤◌, ◌<◌, ◌+◌, ◌-◌, ◌==◌, ℕ, false, IsTrue, List, [], length, get_or, set, replicate, refl, sym, ◌∙◌, ap, subst, arith, get_or-set_same}
 use Rattle.std.proofs.lemmas.List.{length-set}
 use Rattle.ck_disk.specs.Disk.{Image, Meaning, Lawful, Step, LeavesOnly, Reaches, Outside, Agrees, IsSynced, TearsAt}
-use Rattle.ck_disk.proofs.Moments.{writes_on, weakens, joins, now, synced_only, agrees_set, agrees_on, agrees_less}
+use Rattle.ck_disk.proofs.MomentLaws.{writes_on, leaves_more, leaves_both, leaves_now, synced_only, agrees_set, agrees_on, agrees_less}
 use Rattle.ck_log.specs.Layout.{Layout, IsSized, table_blocks, area_at, base_of, size_of}
 use Rattle.ck_log.specs.Header.{Opens, header_of, recovered_by}
 use Rattle.ck_log.specs.Images.{part, names_second, recovered_region, HasTable}
 use Rattle.ck_log.specs.FirstTable.{blank_block, first_block, first_table, WholeOrBefore}
 use Rattle.ck_log.proofs.Parts.{part_first}
-use Rattle.ck_log.proofs.Areas.{first_area-low, area_low, others_gate, table_at}
+use Rattle.ck_log.proofs.AreaLaws.{first_area-low, area_low, others_gate, table_at}
 use Rattle.ck_log.proofs.Commits.{told_on}
 use Rattle.ck_log.proofs.Phases.{apart_gate, same_gate, put_gate}
-use Rattle.ck_log.proofs.Recovery.{recovered_read, recovered_by-header_of, has_table-agrees}
+use Rattle.ck_log.proofs.RecoveryLaws.{recovered_read, recovered_by-header_of, has_table-agrees}
 use Rattle.ck_log.proofs.Runs.{reaches_start, runs_on}
 
 -- places outside a run lie outside its first block, and outside the rest
@@ -105,14 +105,14 @@ module _ (blocks records : ℕ) (old mid : Meaning) where
   module _ (ran : LeavesOnly old mid (Reaches (Outside 1 (base_of records - 1)) old.may_leave)) where
     -- the table first
     pub table_first : LeavesOnly old mid Made
-    table_first = weakens old mid (Reaches (Outside 1 (base_of records - 1)) old.may_leave) Made ran (λ c from told. while_table made old.may_leave c from)
+    table_first = leaves_more old mid (Reaches (Outside 1 (base_of records - 1)) old.may_leave) Made (λ c from told. while_table made old.may_leave c from) ran
 
   -- and then the header
   pub header_last : (new : Meaning) → Lawful mid → (ran : LeavesOnly old mid (Reaches (Outside 1 (base_of records - 1)) old.may_leave))
       → (IsTrue old.tells → names_second mid.shows ≡ false) → (IsTrue old.tells → part (area_at records false) (table_blocks records) mid.shows ≡ first_table (table_blocks records))
       → IsSynced mid → LeavesOnly mid new (Reaches (Outside 0 1) mid.may_leave) → LeavesOnly old new Made
-  header_last new law ran gate table synced more = joins old mid new Made (table_first ran) (weakens mid new (Reaches (Outside 0 1) mid.may_leave) Made more (λ c from told.
+  header_last new law ran gate table synced more = leaves_both old mid new Made (table_first ran) (leaves_more mid new (Reaches (Outside 0 1) mid.may_leave) Made (λ c from told.
       let told_mid = told_on _ _ ran.tells told in
       while_header made old.may_leave mid.shows c (first_has blocks records mid.shows (gate told) (table told))
-      (now old mid (Reaches (Outside 1 (base_of records - 1)) old.may_leave) law ran mid.shows (law.shown told_mid))
-      (subst (λ (d : Image). Agrees (Outside 0 1) d c) (synced_only mid law told_mid synced from.0 from.1) from.2)))
+      (leaves_now old mid (Reaches (Outside 1 (base_of records - 1)) old.may_leave) law ran mid.shows (law.shown told_mid))
+      (subst (λ (d : Image). Agrees (Outside 0 1) d c) (synced_only mid law told_mid synced from.0 from.1) from.2)) more)

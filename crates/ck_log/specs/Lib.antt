@@ -1,7 +1,6 @@
 pub mod Layout
 pub mod Header
 pub mod Images
-pub mod Reads
 pub mod FirstTable
 pub mod Group
 pub mod Faults

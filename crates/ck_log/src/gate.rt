@@ -2,7 +2,7 @@
 ghost use Rattle.std.specs.Prelude.{◌≡◌, ◌<◌, ◌==◌, slice_index, IsTrue, IfOk, OnErr, if◌then◌else◌};
 ghost use Rattle.ck_disk.specs.Disk.{Rose};
 ghost use Rattle.ck_log.specs.Images.{names_second};
-ghost use Rattle.ck_log.specs.Reads.{OnlyReads};
+ghost use Rattle.ck_disk.specs.Runs.{OnlyReads};
 
 use ck_disk::{Block, Disk, Failed};
 

@@ -2,7 +2,7 @@
 ghost use Rattle.std.specs.Prelude.{◌≡◌, ◌≤◌, Bool, true, [], get_or, IsTrue, IfOk, IfErr};
 ghost use Rattle.ck_log.specs.Layout.{IsSized, is_sized, size_of};
 ghost use Rattle.ck_log.specs.Header.{header_of, recovered_by, Opens};
-ghost use Rattle.ck_log.specs.Reads.{OnlyReads};
+ghost use Rattle.ck_disk.specs.Runs.{OnlyReads};
 ghost use Rattle.ck_log.specs.Faults.{IsRefusal, IsOpenFault};
 
 use crate::faults::OpenLog;

@@ -2,7 +2,7 @@ ghost use Rattle.std.specs.Prelude.{◌≡◌, ◌≤◌, ◌<◌, ◌-◌, ◌=
 ghost use Rattle.ck_disk.specs.Disk.{LeavesOnly, Agrees, Outside, IsSynced, KeepsClean, Rose};
 ghost use Rattle.ck_log.specs.Layout.{table_blocks, area_at, base_of, size_of};
 ghost use Rattle.ck_log.specs.Images.{recovered_region, table_on, area_of, Settled, CommitLeaves};
-ghost use Rattle.ck_log.specs.Reads.{OnlyReads};
+ghost use Rattle.ck_disk.specs.Runs.{OnlyReads};
 ghost use Rattle.ck_log.specs.FirstTable.{first_table, new_layout, FormatLeaves};
 ghost use Rattle.ck_log.specs.Header.{Opens, header_of};
 ghost use Rattle.ck_log.specs.Faults.{IsFormatFault, IsOpenFault};

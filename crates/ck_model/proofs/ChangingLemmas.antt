@@ -4,9 +4,11 @@ use Rattle.ck_model.specs.declared.cell.Payload.{Payload}
 use Rattle.ck_model.specs.declared.reply.Reply.TheVariants.{IsDir, Root}
 use Rattle.ck_model.specs.World.{World}
 use Rattle.ck_model.specs.Walk.{file_at, directory_at, name_at, new_name_at}
-use Rattle.ck_model.specs.Changing.{is_spent, has_names, file_limit, made, removed, removed_directory, moved, overwritten, truncated}
-use Rattle.ck_model.proofs.RefusalsLemmas.{OrOrdinary, and_then-ordinary, refuse_if-ordinary}
-use Rattle.ck_model.proofs.WalkLemmas.{file_at-ordinary, directory_at-ordinary, name_at-ordinary, new_name_at-ordinary}
+use Rattle.ck_model.specs.Changing.{is_spent, has_names, made, removed, removed_directory, moved, overwritten, truncated}
+use Rattle.ck_model.specs.Limits.{file_limit}
+use Rattle.ck_model.specs.Ordinary.{OrOrdinary}
+use Rattle.ck_model.proofs.RefusalsLemmas.{and_then-ordinary, refuse_if-ordinary}
+use Rattle.ck_model.proofs.WalkLaws.{file_at-ordinary, directory_at-ordinary, name_at-ordinary, new_name_at-ordinary}
 
 -- the next world differs in the primary map and in the next stamp and file number alone
 pub record ChangesFiles (w : World) (next : World) : Type 0 where

@@ -6,7 +6,8 @@ use Rattle.ck_model.specs.declared.reply.Reply.TheVariants.{NoCkpt, NotMounted, 
 use Rattle.ck_model.specs.Cells.{marked}
 use Rattle.ck_model.specs.World.{World, Checkpoint, keeps_files, is_named, has_id, shown_by}
 use Rattle.ck_model.specs.Freezing.{kind_of, frozen_world, new_id, checkpoint_named, with_changed, as_nodata, dropped, with_flag, restored, mounted, mounted_id, dismounted, standing, mounted_checkpoint, with_data}
-use Rattle.ck_model.proofs.RefusalsLemmas.{OrOrdinary, Refuses, and_then-ordinary, refuse_if-ordinary, ok_or-ordinary}
+use Rattle.ck_model.specs.Ordinary.{OrOrdinary, Refuses}
+use Rattle.ck_model.proofs.RefusalsLemmas.{and_then-ordinary, refuse_if-ordinary, ok_or-ordinary}
 use Rattle.ck_model.proofs.WorldLemmas.{IsLater, IsLater-itself, marked-shown_by, Remain-itself, Remain-filter, Remain-take, Remain-map, AddsNone, AddsOne}
 
 -- a checkpoint with the primary map comes behind those that are left

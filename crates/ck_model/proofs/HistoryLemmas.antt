@@ -1,7 +1,6 @@
 -- What a legal entry makes of the checkpoints, and histories behind one another.
-use Rattle.std.proofs.Common.{◌≡◌, ◌≤◌, ℕ, ◌+◌, true, false, None, Some, IsSomeAnd, MatchOption, MatchBool, List, [], ◌∷◌, ◌++◌, length, nat_eq, nat_le, refl, sym, ap, ◌∙◌, subst, add-zero, arith, if◌then◌else◌}
+use Rattle.std.proofs.Common.{◌≡◌, ◌≤◌, ℕ, true, false, None, Some, IsSomeAnd, MatchOption, MatchBool, refl, sym, ap, ◌∙◌, subst, if◌then◌else◌}
 use Rattle.std.specs.Option.{option_map_or}
-use Rattle.std.proofs.lemmas.Bool.Decides.{nat_tests}
 use Rattle.ck_model.specs.declared.call.Call.{Call}
 use Rattle.ck_model.specs.declared.entry.Entry.{Entry}
 use Rattle.ck_model.specs.declared.reply.Reply.{Reply}
@@ -10,7 +9,7 @@ use Rattle.ck_model.specs.World.{World}
 use Rattle.ck_model.specs.Space.{without_picks}
 use Rattle.ck_model.specs.Streams.{Texts}
 use Rattle.ck_model.specs.Step.{step}
-use Rattle.ck_model.specs.History.{Past, CallsBy, IsStepOf, IsLegalAt, IsLegalWhole, IsRefusal, IsLegalNext, is_fault, is_broken, reply_number, created_id, world_after, past_after, past_of, IsLegalFrom}
+use Rattle.ck_model.specs.History.{Past, CallsBy, IsStepOf, IsLegalAt, IsLegalWhole, IsRefusal, IsLegalNext, is_fault, created_id, world_after, past_after}
 use Rattle.ck_model.proofs.SpaceLemmas.{without_picks-adds}
 use Rattle.ck_model.proofs.StepLemmas.{Adds, step-sound}
 
@@ -20,32 +19,6 @@ created_id-fault _ h = refl
 
 step-no_fault : (texts : Texts) (w : World) (call : Call) (entry : Entry) → IsStepOf (step texts w entry.actor entry.at call) entry → is_fault entry.reply ≡ false
 step-no_fault texts w call entry h = ap is_fault h.reply ∙ (step-sound texts w entry.actor entry.at call).no_fault
-
--- the step's entry is legal, and the step's next world follows
-pub IsStepOf-legal : (texts : Texts) (w : World) (call : Call) (entry : Entry) → IsStepOf (step texts w entry.actor entry.at call) entry → IsLegalAt texts w call entry
-IsStepOf-legal texts w call entry h =
-    let outcome = step texts w entry.actor entry.at call in
-    subst (λ b. MatchBool b (entry.given ≤ outcome.given) (IsStepOf outcome entry)) (sym (step-no_fault texts w call entry h)) h
-
-pub IsStepOf-whole : (texts : Texts) (w : World) (call : Call) (entry : Entry) → IsStepOf (step texts w entry.actor entry.at call) entry → is_broken entry.reply ≡ false
-IsStepOf-whole texts w call entry h = below_faults (reply_number entry.reply) (step-no_fault texts w call entry h)
-  where
-    below_faults : (n : ℕ) → nat_le 18 n ≡ false → nat_eq n 20 ≡ false
-    below_faults n h = grind (arith, nat_tests)
-
-pub world_after-step : (texts : Texts) (w : World) (call : Call) (entry : Entry) → IsStepOf (step texts w entry.actor entry.at call) entry → world_after texts w call entry ≡ (step texts w entry.actor entry.at call).next
-world_after-step texts w call entry h =
-    ap (λ b. if b then without_picks entry.given w else (step texts w entry.actor entry.at call).next) (step-no_fault texts w call entry h)
-
--- a fault's entry is legal where it gave up no more than the step, and the world without that follows
-pub fault-legal : (texts : Texts) (w : World) (call : Call) (entry : Entry) → is_fault entry.reply ≡ true → entry.given ≤ (step texts w entry.actor entry.at call).given → IsLegalAt texts w call entry
-fault-legal texts w call entry fault few =
-    let outcome = step texts w entry.actor entry.at call in
-    subst (λ b. MatchBool b (entry.given ≤ outcome.given) (IsStepOf outcome entry)) (sym fault) few
-
-pub world_after-fault : (texts : Texts) (w : World) (call : Call) (entry : Entry) → is_fault entry.reply ≡ true → world_after texts w call entry ≡ without_picks entry.given w
-world_after-fault texts w call entry fault =
-    ap (λ b. if b then without_picks entry.given w else (step texts w entry.actor entry.at call).next) fault
 
 -- the new checkpoint whose id the entry has comes, if there is one
 pub legal-adds : (texts : Texts) (w : World) (call : Call) (entry : Entry) → IsLegalAt texts w call entry → Adds w (created_id entry.reply) (world_after texts w call entry)
@@ -70,24 +43,3 @@ past_after-adds texts calls past entry =
         | Some broken ↦ λ h. refusal-adds texts w call entry broken h
       ]
     ]
-
-pub past_of-append : (texts : Texts) (calls : CallsBy) (past : Past) (first more : List Entry) → past_of texts calls past (first ++ more) ≡ past_of texts calls (past_of texts calls past first) more
-past_of-append texts calls past [] more = refl
-past_of-append texts calls past (entry ∷ first) more = past_of-append texts calls (past_after texts calls past entry) first more
-
-pub length-past_of : (texts : Texts) (calls : CallsBy) (past : Past) (history : List Entry) → (past_of texts calls past history).length ≡ past.length + length history
-length-past_of texts calls past [] = sym (add-zero past.length)
-length-past_of texts calls past (entry ∷ history) = let rest = length-past_of texts calls (past_after texts calls past entry) history in omega (arith, rest)
-
-pub IsLegalFrom-append : (texts : Texts) (calls : CallsBy) (past : Past) (first more : List Entry) → IsLegalFrom texts calls past first → IsLegalFrom texts calls (past_of texts calls past first) more → IsLegalFrom texts calls past (first ++ more)
-IsLegalFrom-append texts calls past [] more h rest = rest
-IsLegalFrom-append texts calls past (entry ∷ first) more h rest = (h.0, IsLegalFrom-append texts calls (past_after texts calls past entry) first more h.1 rest)
-
--- a legal history's beginning is legal, and what follows is legal behind it
-pub IsLegalFrom-first : (texts : Texts) (calls : CallsBy) (past : Past) (first more : List Entry) → IsLegalFrom texts calls past (first ++ more) → IsLegalFrom texts calls past first
-IsLegalFrom-first texts calls past [] more h = tt
-IsLegalFrom-first texts calls past (entry ∷ first) more h = (h.0, IsLegalFrom-first texts calls (past_after texts calls past entry) first more h.1)
-
-pub IsLegalFrom-more : (texts : Texts) (calls : CallsBy) (past : Past) (first more : List Entry) → IsLegalFrom texts calls past (first ++ more) → IsLegalFrom texts calls (past_of texts calls past first) more
-IsLegalFrom-more texts calls past [] more h = h
-IsLegalFrom-more texts calls past (entry ∷ first) more h = IsLegalFrom-more texts calls (past_after texts calls past entry) first more h.1

@@ -4,12 +4,11 @@ use Rattle.std.specs.List.{AllByRecursion}
 use Rattle.std.specs.Option.{option_or, option_map_or}
 use Rattle.std.proofs.lemmas.Option.{none-some}
 use Rattle.ck_model.specs.declared.entry.Entry.{Entry}
-use Rattle.ck_model.specs.declared.checkpoint.Limits.{Limits}
 use Rattle.ck_model.specs.Cells.{Cells}
-use Rattle.ck_model.specs.World.{World, Checkpoint, empty_world, has_id, shown_by}
+use Rattle.ck_model.specs.World.{World, Checkpoint, has_id, shown_by}
 use Rattle.ck_model.specs.Streams.{Texts}
-use Rattle.ck_model.specs.History.{Past, CallsBy, begun, created_id, past_after, past_of, IsLegalFrom, IsLegal, state}
-use Rattle.ck_model.specs.Laws.{IdsRise, IsWorld, frozen_from, frozen, FrozenMapsStay, WorldsStay}
+use Rattle.ck_model.specs.History.{Past, CallsBy, begun, created_id, past_after, past_of, IsLegalFrom}
+use Rattle.ck_model.specs.Laws.{IdsRise, IsWorld, frozen_from, FrozenMapsStay, WorldsStay}
 use Rattle.ck_model.proofs.WorldLemmas.{IsLater, Remain-itself, All-remain, All-append, IdsRise-remain, IdsRise-append, shown_again}
 use Rattle.ck_model.proofs.StepLemmas.{Adds}
 use Rattle.ck_model.proofs.HistoryLemmas.{past_after-adds}
@@ -26,7 +25,7 @@ shown_later c d later h =
 shown_new : (w : World) (new : Checkpoint) → shown_by new.kind w.primary ≡ new.cells → IsShown new
 shown_new w new h = ap (shown_by new.kind) (sym h) ∙ shown_again new.kind w.primary ∙ h
 
-IsWorld-adds : (w next : World) (new : Option ℕ) → Adds w new next → IsWorld w → IsWorld next
+pub IsWorld-adds : (w next : World) (new : Option ℕ) → Adds w new next → IsWorld w → IsWorld next
 IsWorld-adds w next None h world = record {
   ids = subst (IdsRise 1 next.checkpoints) (sym h.id) (IdsRise-remain h.remain 1 w.next.id world.ids);
   marks = All-remain IsShown IsShown shown_later h.remain world.marks;
@@ -41,9 +40,6 @@ worlds_stay_from : (texts : Texts) (calls : CallsBy) (past : Past) (history : Li
 worlds_stay_from texts calls past [] world legal = world
 worlds_stay_from texts calls past (entry ∷ entries) world legal =
     worlds_stay_from texts calls (past_after texts calls past entry) entries (IsWorld-adds past.world _ (created_id entry.reply) (past_after-adds texts calls past entry legal.0) world) legal.1
-
-pub IsWorld-empty : (limits : Limits) → IsWorld (empty_world limits)
-IsWorld-empty limits = record { ids = le_refl 1; marks = tt }
 
 pub worlds_stay_lem : WorldsStay
 worlds_stay_lem texts calls w history world legal = worlds_stay_from texts calls (begun w) history world legal
@@ -151,15 +147,6 @@ frozen_maps_stay_lem texts calls w history world legal =
     (record { all = own_maps-frozen 1 w.checkpoints w.next.id world.ids world.marks; unused = λ id above. own_maps-unused 1 w.checkpoints w.next.id id world.ids above })
     legal
 
--- the first map that was frozen under an id in either part of a history
-pub frozen_from-append : (texts : Texts) (calls : CallsBy) (past : Past) (first more : List Entry) (id : ℕ) → frozen_from texts calls past (first ++ more) id ≡ option_or (frozen_from texts calls past first id) (frozen_from texts calls (past_of texts calls past first) more id)
-frozen_from-append texts calls past [] more id = refl
-frozen_from-append texts calls past (entry ∷ first) more id =
-    elim (option_map_or (nat_eq id) (created_id entry.reply) false) as (λ b. (if b then Some past.world.primary else frozen_from texts calls (past_after texts calls past entry) (first ++ more) id) ≡ option_or (if b then Some past.world.primary else frozen_from texts calls (past_after texts calls past entry) first id) (frozen_from texts calls (past_of texts calls (past_after texts calls past entry) first) more id)) [
-      | true ↦ refl
-      | false ↦ frozen_from-append texts calls (past_after texts calls past entry) first more id
-    ]
-
 found : (P : Checkpoint → Type 0) (id : ℕ) (cs : List Checkpoint) (c : Checkpoint) → AllByRecursion P cs → find (has_id id) cs ≡ Some c → P c × (c.id ≡ id)
 found P id [] c all h = absurd (none-some c h)
 found P id (d ∷ cs) c all h =
@@ -167,10 +154,3 @@ found P id (d ∷ cs) c all h =
       | true ↦ λ same is. let here : d ≡ c = cc in subst (λ x. P x × (x.id ≡ id)) here (all.0, eqb-true d.id id same)
       | false ↦ λ _ is. found P id cs c all.1 is
     ] refl h
-
--- the checkpoint that stands with an id has the map that was frozen under it
-pub standing-frozen : (texts : Texts) (calls : CallsBy) (w : World) (history : List Entry) → IsWorld w → IsLegal texts calls w history
-    → (id : ℕ) (c : Checkpoint) → find (has_id id) (state texts calls w history).checkpoints ≡ Some c → option_map (shown_by c.kind) (frozen texts calls w history id) ≡ Some c.cells
-standing-frozen texts calls w history world legal id c h =
-    let there = found (IsFrozen (frozen texts calls w history)) id (state texts calls w history).checkpoints c (frozen_maps_stay_lem texts calls w history world legal) h in
-    subst (λ i. option_map (shown_by c.kind) (frozen texts calls w history i) ≡ Some c.cells) there.1 there.0

@@ -4,7 +4,7 @@ use Rattle.std.proofs.lemmas.Bool.{cases_lt}
 use Rattle.std.proofs.lemmas.List.{get_or-drop, get_or_default, get_or_past, take-append-drop, append-nil, append_assoc, append_cancel_left}
 use Rattle.std.proofs.lemmas.List.Elements.{All-head, All-tail, All-weaker, All-push}
 use Rattle.ck_model.specs.Name.{IsNameByte, IsFileName}
-use Rattle.ck_model.specs.Path.{IsPath, joined, path_text}
+use Rattle.ck_model.specs.Path.{joined, path_text}
 
 -- the list has a slash nowhere
 pub record HasNoSlash (bytes : List ℕ) : Type 0 where
@@ -125,26 +125,3 @@ HasRead-push bytes names rest name behind h file e only =
 pub joined_from_path : (names : List (List ℕ)) (bytes : List ℕ) → path_text names ≡ bytes → bytes ≢ 47 ∷ [] → joined names ≡ bytes
 joined_from_path [] bytes e other = absurd (other (sym e))
 joined_from_path (name ∷ names) bytes e other = e
-
--- no two lists of names have one text
-pub joined_injective : (a b : List (List ℕ)) → All IsFileName a → All IsFileName b → joined a ≡ joined b → a ≡ b
-joined_injective [] [] p q e = refl
-joined_injective [] (y ∷ ys) p q e = cc
-joined_injective (x ∷ xs) [] p q e = cc
-joined_injective (x ∷ xs) (y ∷ ys) p q e =
-    let tails : x ++ joined xs ≡ y ++ joined ys = cc in
-    let parts = same_front x y (joined xs) (joined ys) (HasNoSlash-file_name x (All-head IsFileName x xs p)) (HasNoSlash-file_name y (All-head IsFileName y ys q)) (IsAtSlash-joined xs) (IsAtSlash-joined ys) tails in
-    let rest : xs ≡ ys = joined_injective xs ys (All-tail IsFileName x xs p) (All-tail IsFileName y ys q) parts.1 in
-    cc (parts.0, rest)
-
--- a slash alone is no name's text
-no_root : (name : List ℕ) (names : List (List ℕ)) → IsFileName name → 47 ∷ [] ≡ joined (name ∷ names) → ⊥
-no_root [] names file e = omega (arith, file.name.some)
-no_root (b ∷ bs) names file e = cc
-
--- no two paths have one text
-pub path_text_injective : (a b : List (List ℕ)) → IsPath a → IsPath b → path_text a ≡ path_text b → a ≡ b
-path_text_injective [] [] p q e = refl
-path_text_injective [] (y ∷ ys) p q e = absurd (no_root y ys (All-head IsFileName y ys q.each) e)
-path_text_injective (x ∷ xs) [] p q e = absurd (no_root x xs (All-head IsFileName x xs p.each) (sym e))
-path_text_injective (x ∷ xs) (y ∷ ys) p q e = joined_injective (x ∷ xs) (y ∷ ys) p.each q.each e

@@ -1,20 +1,9 @@
 -- Which replies a refusal can be.
-use Rattle.std.proofs.Common.{◌≡◌, Bool, true, false, Option, None, Some, Result, Ok, Err, MatchResult, ok_or}
+use Rattle.std.proofs.Common.{Bool, true, false, Option, None, Some, Result, Ok, Err, ok_or}
 use Rattle.std.specs.Prelude.{⊤}
 use Rattle.ck_model.specs.declared.reply.Reply.{Reply}
 use Rattle.ck_model.specs.Refusals.{and_then, refuse_if}
-use Rattle.ck_model.specs.History.{is_fault, created_id}
-
--- neither a fault nor a new checkpoint's id
-abbrev pub IsOrdinary : Reply → Type 0
-IsOrdinary reply = (is_fault reply ≡ false) × (created_id reply ≡ None)
-
--- what there is has a property, and a refusal is ordinary
-abbrev pub OrOrdinary : {A : Type 0} → (A → Type 0) → Result A Reply → Type 0
-OrOrdinary P r = MatchResult r P IsOrdinary
-
-abbrev pub Refuses : {A : Type 0} → Result A Reply → Type 0
-Refuses r = OrOrdinary (λ x. ⊤) r
+use Rattle.ck_model.specs.Ordinary.{IsOrdinary, OrOrdinary, Refuses}
 
 pub and_then-given : {A B : Type 0} (Q : A → Type 0) (P : B → Type 0) (r : Result A Reply) (next : A → Result B Reply) → OrOrdinary Q r → ((x : A) → Q x → OrOrdinary P (next x)) → OrOrdinary P (and_then r next)
 and_then-given Q P (Ok x) next h then = then x h

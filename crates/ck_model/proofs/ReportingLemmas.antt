@@ -1,15 +1,16 @@
 -- What the calls that change nothing can answer: neither a fault nor a new checkpoint's id.
 use Rattle.std.proofs.Common.{ℕ, true, false, List, length, nat_lt, refl, if◌then◌else◌}
-use Rattle.ck_model.specs.Cells.{Cells, is_directory_at, size_at}
 use Rattle.ck_model.specs.declared.reply.Reply.TheVariants.{StatDir, StatFile}
+use Rattle.ck_model.specs.Cells.{Cells, is_directory_at, size_at}
 use Rattle.ck_model.specs.Reading.{children}
 use Rattle.ck_model.specs.Walk.{node_at, file_at, directory_at}
 use Rattle.ck_model.specs.World.{World}
 use Rattle.ck_model.specs.Streams.{Texts}
 use Rattle.ck_model.specs.Freezing.{mounted_id, mounted_checkpoint, standing, with_data}
 use Rattle.ck_model.specs.Reporting.{range_read, names_listed, stat_reply, status_of, checkpoint_read, checkpoint_names, full_stream, changed_stream}
-use Rattle.ck_model.proofs.RefusalsLemmas.{IsOrdinary, OrOrdinary, and_then-ordinary, refuse_if-ordinary}
-use Rattle.ck_model.proofs.WalkLemmas.{node_at-ordinary, file_at-ordinary, directory_at-ordinary}
+use Rattle.ck_model.specs.Ordinary.{IsOrdinary, OrOrdinary}
+use Rattle.ck_model.proofs.RefusalsLemmas.{and_then-ordinary, refuse_if-ordinary}
+use Rattle.ck_model.proofs.WalkLaws.{node_at-ordinary, file_at-ordinary, directory_at-ordinary}
 use Rattle.ck_model.proofs.FreezingLemmas.{mounted_id-ordinary, mounted_checkpoint-ordinary, standing-ordinary, with_data-ordinary}
 
 pub range_read-ordinary : (cells : Cells) (path : List (List ℕ)) (at len : ℕ) → OrOrdinary IsOrdinary (range_read cells path at len)

@@ -12,7 +12,8 @@ use Rattle.ck_model.specs.Streams.{Texts}
 use Rattle.ck_model.specs.Freezing.{frozen_world, new_id, checkpoint_named, older_than, any_keeps, as_nodata, with_changed}
 use Rattle.ck_model.specs.Step.{Outcome, told, outcome_of, answered, done, with_room, changing, created, converted, step}
 use Rattle.ck_model.specs.History.{is_fault, created_id}
-use Rattle.ck_model.proofs.RefusalsLemmas.{IsOrdinary, OrOrdinary, and_then-given, and_then-ordinary}
+use Rattle.ck_model.specs.Ordinary.{IsOrdinary, OrOrdinary}
+use Rattle.ck_model.proofs.RefusalsLemmas.{and_then-given, and_then-ordinary}
 use Rattle.ck_model.proofs.WorldLemmas.{AddsNone, AddsOne, AddsNone-itself}
 use Rattle.ck_model.proofs.SpaceLemmas.{without_picks-rest, without_picks-adds}
 use Rattle.ck_model.proofs.ChangingLemmas.{ChangesFiles, made-changes, removed-changes, removed_directory-changes, moved-changes, overwritten-changes, truncated-changes}

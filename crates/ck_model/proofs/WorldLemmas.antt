@@ -6,7 +6,7 @@ use Rattle.ck_model.specs.declared.checkpoint.Kind.TheVariants.{Keeping, Nodata}
 use Rattle.ck_model.specs.Cells.{Cells, marked}
 use Rattle.ck_model.specs.World.{World, Checkpoint, shown_by}
 use Rattle.ck_model.specs.Laws.{IdsRise}
-use Rattle.ck_model.proofs.CellsLemmas.{marked_again}
+use Rattle.ck_model.proofs.CellLaws.{marked_again}
 
 pub shown_again : (kind : Kind) (cells : Cells) → shown_by kind (shown_by kind cells) ≡ shown_by kind cells
 shown_again Keeping cells = refl

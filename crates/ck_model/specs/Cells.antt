@@ -62,6 +62,11 @@ abbrev pub with_cells : Cells → List (Key × Cell) → Cells
 with_cells cells [] = cells
 with_cells cells (e ∷ es) = map.insert (with_cells cells es) e.0 e.1
 
+-- the map with this cell at the key, or with none there
+abbrev pub set_cell : Cells → Key → Option Cell → Cells
+set_cell cells key None = map.remove cells key
+set_cell cells key (Some cell) = map.insert cells key cell
+
 -- a block's cell without its bytes
 abbrev pub mark_of : Key → Cell → Cell
 mark_of key cell = if is_block key then record cell { payload = None } else cell
@@ -87,3 +92,15 @@ differences a b =
     map.retain_keys
     (map.from_entries (list_map (λ e. (e.0, Some e.1)) (map.entries b) ++ list_map (λ e. (e.0, None)) (map.entries a)))
     (λ key. differs (map.get a key) (map.get b key))
+
+-- the keys that the second map has in another version or anew
+abbrev pub is_new_in : Cells → Cells → Key → Bool
+is_new_in a b key = differs (map.get a key) (map.get b key)
+
+-- the keys that the second map lacks
+abbrev pub is_gone_in : Cells → Key → Bool
+is_gone_in b key = not (map.contains_key b key)
+
+-- an entry with its block as a mark
+abbrev pub mark_entry : Key × Cell → Key × Cell
+mark_entry e = (e.0, mark_of e.0 e.1)

@@ -1,16 +1,20 @@
 -- The calls that change files: what they refuse, in order, and the world after them where there is room.
-use Rattle.std.specs.Prelude.{ℕ, ◌+◌, ◌^◌, ◌&&◌, ◌||◌, Bool, List, length, Result, Ok, nat_eq, nat_lt}
+use Rattle.std.specs.Prelude.{⊤, ℕ, ◌+◌, ◌^◌, ◌≤◌, ◌&&◌, ◌||◌, Bool, List, length, Result, Ok, Err, nat_eq, nat_lt, replicate}
 use Rattle.std.specs.List.{list_any}
 use Rattle.std.specs.FinMap as map
 use Rattle.ck_model.specs.declared.cell.Payload.{Payload}
+use Rattle.ck_model.specs.declared.cell.Payload.TheVariants.{File, Dir}
+use Rattle.ck_model.specs.declared.call.Call.{Call}
+use Rattle.ck_model.specs.declared.call.Call.TheVariants.{Make, Mkdir, Rm, Rmdir, Mv, Write, Fill, Trunc}
 use Rattle.ck_model.specs.declared.reply.Reply.{Reply}
-use Rattle.ck_model.specs.declared.reply.Reply.TheVariants.{IsDir, NotEmpty, Root, TooBig, Spent}
+use Rattle.ck_model.specs.declared.reply.Reply.TheVariants.{Done, IsDir, NotEmpty, Root, TooBig, Spent}
 use Rattle.ck_model.specs.Key.{is_name_in}
 use Rattle.ck_model.specs.Cells.{Cells}
 use Rattle.ck_model.specs.Refusals.{and_then, refuse_if}
 use Rattle.ck_model.specs.Walk.{file_at, directory_at, name_at, new_name_at}
 use Rattle.ck_model.specs.Changes.{with_node, without_file, without_directory, renamed, written, resized}
 use Rattle.ck_model.specs.World.{World}
+use Rattle.ck_model.specs.Limits.{file_limit}
 
 -- no stamp is left
 abbrev pub is_spent : World → Bool
@@ -59,10 +63,6 @@ moved w path new_path =
     (and_then (name_at w.primary IsDir path) (λ from.
     Ok (with_primary w (renamed w.primary w.next.stamp from to node))))))
 
--- the limit of a file's size
-abbrev pub file_limit : ℕ
-file_limit = 1073741824
-
 -- `write`, and `fill` with so many times one byte
 abbrev pub overwritten : World → List (List ℕ) → ℕ → List ℕ → Result World Reply
 overwritten w path at bytes =
@@ -77,3 +77,27 @@ truncated w path size =
     and_then (file_at w.primary path) (λ node.
     refuse_if (is_spent w) Spent
     (Ok (with_primary w (resized w.primary w.next.stamp node size))))
+
+-- a call that changes files, whose places and sizes are within the limit of a file's size
+abbrev pub IsChanging : Call → Type 0
+IsChanging (Make path) = ⊤
+IsChanging (Mkdir path) = ⊤
+IsChanging (Rm path) = ⊤
+IsChanging (Rmdir path) = ⊤
+IsChanging (Mv path new_path) = ⊤
+IsChanging (Write path place bytes) = place ≤ file_limit
+IsChanging (Fill path place len byte) = place ≤ file_limit
+IsChanging (Trunc path size) = size ≤ file_limit
+IsChanging _ = ⊥
+
+-- the first refusal, or the world after the call where there is room; no other call is asked for
+abbrev pub changed_by : World → Call → Result World Reply
+changed_by w (Make path) = made w path (File 0)
+changed_by w (Mkdir path) = made w path Dir
+changed_by w (Rm path) = removed w path
+changed_by w (Rmdir path) = removed_directory w path
+changed_by w (Mv path new_path) = moved w path new_path
+changed_by w (Write path place bytes) = overwritten w path place bytes
+changed_by w (Fill path place len byte) = overwritten w path place (replicate len byte)
+changed_by w (Trunc path size) = truncated w path size
+changed_by w _ = Err Done

@@ -4,10 +4,14 @@ use Rattle.std.specs.List.{AllByRecursion}
 use Rattle.std.specs.Option.{option_map, option_or, option_map_or}
 use Rattle.std.specs.FinMap as map
 use Rattle.ck_model.specs.declared.key.Key.{Key}
+use Rattle.ck_model.specs.declared.call.Call.{Call}
+use Rattle.ck_model.specs.declared.checkpoint.Limits.{Limits}
 use Rattle.ck_model.specs.declared.entry.Entry.{Entry}
 use Rattle.ck_model.specs.Cells.{Cells, differs}
-use Rattle.ck_model.specs.World.{World, Checkpoint, has_id, shown_by}
+use Rattle.ck_model.specs.World.{World, Checkpoint, empty_world, has_id, shown_by}
 use Rattle.ck_model.specs.Streams.{Texts, image, changed, applied}
+use Rattle.ck_model.specs.Step.{step}
+use Rattle.ck_model.specs.Tree.{IsGrown}
 use Rattle.ck_model.specs.History.{Past, CallsBy, begun, past_after, IsLegal, state, created_id}
 
 -- the ids of these checkpoints rise from this number on, and are below the next id
@@ -54,3 +58,23 @@ OfOneHistory a b = (key : Key) → differs (map.get a key) (map.get b key) ≡ f
 -- what changed from one map to another, applied to the first one's image, gives the second one's
 abbrev pub ChangesApply : Type 0
 ChangesApply = (a b : Cells) → OfOneHistory a b → applied (image a) (changed a b) ≡ image b
+
+-- the primary map and those of all checkpoints are trees
+pub record HasTrees (w : World) : Type 0 where
+  pub primary : IsGrown w.next.number w.primary
+  pub checkpoints : AllByRecursion (λ checkpoint. IsGrown w.next.number checkpoint.cells) w.checkpoints
+
+-- the empty world has trees
+abbrev pub TreesBegin : Type 0
+TreesBegin = (limits : Limits) → HasTrees (empty_world limits)
+
+-- every call leaves trees
+abbrev pub CallsKeepTrees : Type 0
+CallsKeepTrees =
+    (texts : Texts) (w : World) (actor at : ℕ) (call : Call) → IsWorld w → HasTrees w → HasTrees (step texts w actor at call).next
+
+-- and so does every legal history
+abbrev pub TreesStay : Type 0
+TreesStay =
+    (texts : Texts) (calls : CallsBy) (w : World) (history : List Entry) → IsWorld w → HasTrees w → IsLegal texts calls w history →
+    HasTrees (state texts calls w history)

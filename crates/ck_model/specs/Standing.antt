@@ -1,6 +1,8 @@
 -- The world that a table stands for over the data blocks of a device.
-use Rattle.std.specs.Prelude.{ℕ, not, List, [], ◌∷◌, ◌++◌, Option, Some, None, length, filter, map as list_map}
+use Rattle.std.specs.Prelude.{ℕ, not, List, [], ◌∷◌, ◌++◌, Option, Some, None, length, filter, map as list_map, Bool}
 use Rattle.std.specs.FinMap as map
+use Rattle.std.specs.Ordering.{eq_by_cmp}
+use Rattle.std.specs.List.{list_any}
 use Rattle.ck_model.specs.declared.key.Key.{Key}
 use Rattle.ck_model.specs.declared.held.Held.{Held}
 use Rattle.ck_model.specs.declared.held.Held.TheVariants.{Absent, Plain, Extent, Mark}
@@ -9,6 +11,8 @@ use Rattle.ck_model.specs.World.{World, Checkpoint, Mounts, shown_by}
 use Rattle.ck_model.specs.Table.{Table}
 use Rattle.ck_model.specs.Chain.{value_at}
 use Rattle.ck_model.specs.Values.{Store, Values, cells_on}
+use Rattle.ck_model.specs.Key.{key_cmp}
+use Rattle.ck_model.specs.Limits.{checkpoint_limit}
 
 -- the keys of all entries, whatever their filesets
 abbrev pub keys_of : Table → List Key
@@ -44,10 +48,6 @@ live_filesets t = filter (λ e. not e.1.gone) (map.entries t.filesets)
 abbrev pub checkpoints_on : Store → Table → List Checkpoint
 checkpoints_on store t = list_map (λ e. checkpoint_on store t e.0 e.1) (live_filesets t)
 
--- at most so many checkpoints may stand
-abbrev pub checkpoint_limit : ℕ
-checkpoint_limit = 64
-
 abbrev pub world_on : Store → Mounts → Table → World
 world_on store mounts t = record {
   limits = record { blocks = t.blocks; records = t.records; checkpoints = checkpoint_limit };
@@ -74,3 +74,7 @@ extents_of t = blocks_of (map.entries t.entries)
 
 abbrev pub extent_count : Table → ℕ
 extent_count t = length (extents_of t)
+
+-- the key is one of these
+abbrev pub is_among : Key → List Key → Bool
+is_among q keys = list_any (λ key. eq_by_cmp key_cmp q key) keys

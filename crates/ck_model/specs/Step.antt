@@ -1,6 +1,5 @@
 -- What a call is answered, and the world after it.
-use Rattle.std.specs.Prelude.{ℕ, Bool, List, length, Result, Ok, Err, if◌then◌else◌, replicate}
-use Rattle.ck_model.specs.declared.cell.Payload.TheVariants.{File, Dir}
+use Rattle.std.specs.Prelude.{ℕ, Bool, List, length, Result, Ok, Err, if◌then◌else◌}
 use Rattle.ck_model.specs.declared.call.Call.{Call}
 use Rattle.ck_model.specs.declared.call.Call.TheVariants.{Make, Mkdir, Rm, Rmdir, Mv, Write, Fill, Trunc, Read, List as Ls, Stat, Create, Remove, Nodata, Removable, Ckpts, Mount, Umount, Cread, Clist, Restore, Backup, Full, Info, Sync}
 use Rattle.ck_model.specs.declared.reply.Reply.{Reply}
@@ -9,7 +8,7 @@ use Rattle.ck_model.specs.Refusals.{and_then}
 use Rattle.ck_model.specs.World.{World}
 use Rattle.ck_model.specs.Space.{fits, no_space, given_up, without_picks, new_block_count}
 use Rattle.ck_model.specs.Streams.{Texts}
-use Rattle.ck_model.specs.Changing.{made, removed, removed_directory, moved, overwritten, truncated}
+use Rattle.ck_model.specs.Changing.{changed_by}
 use Rattle.ck_model.specs.Freezing.{new_id, frozen_world, checkpoint_named, older_than, any_keeps, as_nodata, with_changed, dropped, with_flag, restored, mounted, dismounted}
 use Rattle.ck_model.specs.Reporting.{range_read, names_listed, status_of, listing_of, info_of, checkpoint_read, checkpoint_names, full_stream, changed_stream}
 
@@ -65,14 +64,14 @@ converted w name =
 
 -- the step of an actor's call at a moment
 abbrev pub step : Texts → World → ℕ → ℕ → Call → Outcome
-step texts w actor at (Make path) = changing w (made w path (File 0))
-step texts w actor at (Mkdir path) = changing w (made w path Dir)
-step texts w actor at (Rm path) = changing w (removed w path)
-step texts w actor at (Rmdir path) = changing w (removed_directory w path)
-step texts w actor at (Mv path new_path) = changing w (moved w path new_path)
-step texts w actor at (Write path place bytes) = changing w (overwritten w path place bytes)
-step texts w actor at (Fill path place len byte) = changing w (overwritten w path place (replicate len byte))
-step texts w actor at (Trunc path size) = changing w (truncated w path size)
+step texts w actor at (Make path) = changing w (changed_by w (Make path))
+step texts w actor at (Mkdir path) = changing w (changed_by w (Mkdir path))
+step texts w actor at (Rm path) = changing w (changed_by w (Rm path))
+step texts w actor at (Rmdir path) = changing w (changed_by w (Rmdir path))
+step texts w actor at (Mv path new_path) = changing w (changed_by w (Mv path new_path))
+step texts w actor at (Write path place bytes) = changing w (changed_by w (Write path place bytes))
+step texts w actor at (Fill path place len byte) = changing w (changed_by w (Fill path place len byte))
+step texts w actor at (Trunc path size) = changing w (changed_by w (Trunc path size))
 step texts w actor at (Read path place len) = answered w (range_read w.primary path place len)
 step texts w actor at (Ls path) = answered w (names_listed w.primary path)
 step texts w actor at (Stat path) = answered w (status_of w.primary path)

@@ -1,4 +1,4 @@
-ghost use Rattle.ck_model.specs.Laws.{ChangesApply, FrozenMapsStay, WorldsStay};
+ghost use Rattle.ck_model.specs.Laws.{CallsKeepTrees, ChangesApply, FrozenMapsStay, TreesBegin, TreesStay, WorldsStay};
 
 /// What a checkpoint froze stays: after every legal history of a well-formed world, each checkpoint
 /// that stands has the primary map of the entry that created it, or, if it stood at the beginning,
@@ -17,4 +17,13 @@ pub fn changes_apply()
 /// below the next id, and a nodata one has marks in place of blocks.
 pub fn worlds_stay()
     ensures { WorldsStay }
+{}
+
+/// The tree rule: in the empty world's map, in every map after a call on a well-formed world whose
+/// maps all have it, and in every map after a legal history of such a world, the nodes are a tree of
+/// directories under node 0, files have blocks below their sizes alone, and zeros behind them.
+pub fn trees_stay()
+    ensures begin { TreesBegin }
+    ensures calls { CallsKeepTrees }
+    ensures histories { TreesStay }
 {}

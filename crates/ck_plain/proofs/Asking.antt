@@ -1,5 +1,5 @@
 -- What a call that makes room comes to, where what it asks for is known.
-use Rattle.std.proofs.Common.{◌≡◌, ℕ, zero, suc, ◌+◌, ◌-◌, ◌&&◌, Bool, true, false, List, [], ◌∷◌, ◌++◌, length, Option, Some, None, nat_le, if◌then◌else◌, refl, sym, ap, ◌∙◌, arith, length-append}
+use Rattle.std.proofs.Common.{◌≡◌, ℕ, zero, suc, ◌+◌, ◌-◌, ◌&&◌, Bool, true, false, List, [], ◌∷◌, ◌++◌, length, Some, None, nat_le, if◌then◌else◌, refl, sym, ap, ◌∙◌, arith, length-append}
 use Rattle.std.specs.Option.{option_map_or}
 use Rattle.std.specs.FinMap as map
 use Rattle.ck_model.specs.declared.checkpoint.Kind.{Kind}
@@ -7,11 +7,11 @@ use Rattle.ck_model.specs.declared.reply.Reply.{Reply}
 use Rattle.ck_model.specs.declared.reply.Reply.TheVariants.{NoSpace}
 use Rattle.ck_model.specs.declared.reply.SpaceOf.TheVariants.{Blocks, Records}
 use Rattle.ck_model.specs.Cells.{Cells, differences}
-use Rattle.ck_model.specs.World.{World, Checkpoint, shown_by, without_checkpoint}
-use Rattle.ck_model.specs.Space.{fits, no_space, given_up, without_picks, records_in, next_cells, difference_count}
+use Rattle.ck_model.specs.World.{World, Checkpoint, shown_by}
+use Rattle.ck_model.specs.Space.{fits, no_space, given_up, without_picks, records_in, difference_count}
 use Rattle.ck_model.specs.Freezing.{kind_of, frozen_world}
 use Rattle.ck_model.specs.Step.{Outcome, with_room}
-use Rattle.ck_model.proofs.Differences.{len-differences_shown, len-shown_differences}
+use Rattle.ck_model.proofs.DifferenceLaws.{len-differences_shown, len-shown_differences}
 use Rattle.ck_plain.specs.Outcome.{with_files}
 use Rattle.ck_plain.specs.Room.{Ask, held_beside, records_beside, records_after, has_room, space_lack, pick_among, without_id, left_of, picks_for}
 

@@ -1,13 +1,13 @@
 -- How many blocks and records the checkpoints take at most.
-use Rattle.std.proofs.Common.{◌≡◌, ℕ, ◌+◌, ◌-◌, ◌*◌, ◌≤◌, ◌<◌, ◌^◌, Bool, true, false, cond, ◌&&◌, ◌||◌, List, [], ◌∷◌, length, take, drop, map as list_map, if◌then◌else◌, arith, length-take, length-drop}
+use Rattle.std.proofs.Common.{ℕ, ◌+◌, ◌-◌, ◌*◌, ◌≤◌, ◌<◌, ◌^◌, Bool, true, false, ◌&&◌, ◌||◌, List, [], ◌∷◌, length, take, drop, map as list_map, if◌then◌else◌, arith, length-take, length-drop}
 use Rattle.std.specs.FinMap as map
 use Rattle.std.proofs.lemmas.List.{length-map}
 use Rattle.ck_model.specs.Key.{is_block, key_cmp_total, key_cmp_exact}
-use Rattle.ck_model.specs.Cells.{Cells, differs, differences}
+use Rattle.ck_model.specs.Cells.{Cells, differs}
 use Rattle.ck_model.specs.World.{keeps_files}
 use Rattle.ck_model.specs.Space.{next_cells, held_by, own_block_count, difference_count}
-use Rattle.ck_model.proofs.Sizes.{len-retain_keys-le}
-use Rattle.ck_model.proofs.Differences.{len-differences-le}
+use Rattle.ck_model.proofs.SizeLaws.{len-retain_keys-le}
+use Rattle.ck_model.proofs.DifferenceLaws.{len-differences-le}
 use Rattle.ck_plain.specs.declared.world.PlainCheckpoint.{PlainCheckpoint}
 use Rattle.ck_plain.specs.Plain.{checkpoint_of}
 use Rattle.ck_plain.specs.Room.{held_beside, records_beside}

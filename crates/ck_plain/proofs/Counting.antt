@@ -6,7 +6,7 @@ use Rattle.ck_model.specs.declared.key.Key.{Key}
 use Rattle.ck_model.specs.declared.cell.Cell.{Cell}
 use Rattle.ck_model.specs.Key.{key_cmp_total, key_cmp_exact}
 use Rattle.ck_model.specs.Cells.{Cells}
-use Rattle.ck_model.proofs.Sizes.{len-retain_keys}
+use Rattle.ck_model.proofs.SizeLaws.{len-retain_keys}
 
 pub counted : (cells : Cells) (p : Key → Bool) (n : ℕ) → n ≡ count_by (λ e. p e.0) (map.entries cells) → n ≡ map.len (map.retain_keys cells p)
 counted cells p n is =

@@ -1,5 +1,5 @@
 -- How many cells a call that changes files puts at most, and the stamp after it.
-use Rattle.std.proofs.Common.{◌≡◌, ℕ, ◌+◌, ◌-◌, ◌*◌, ◌/◌, ◌%◌, ◌^◌, ◌≤◌, ◌<◌, ◌≢◌, ◌&&◌, ◌||◌, Bool, true, false, not, List, [], ◌∷◌, length, Result, Ok, Err, IfOk, nat_eq, nat_lt, map as list_map, if◌then◌else◌, refl, ap, arith, replicate}
+use Rattle.std.proofs.Common.{◌≡◌, ℕ, ◌+◌, ◌-◌, ◌/◌, ◌%◌, ◌^◌, ◌≤◌, ◌&&◌, ◌||◌, Bool, true, false, not, List, [], ◌∷◌, length, Result, Ok, Err, IfOk, nat_eq, nat_lt, map as list_map, if◌then◌else◌, refl, arith, replicate}
 use Rattle.std.specs.List.{range_with_len}
 use Rattle.std.specs.FinMap as map
 use Rattle.std.proofs.lemmas.List.{length-map}
@@ -14,15 +14,15 @@ use Rattle.ck_model.specs.declared.call.Call.{Call}
 use Rattle.ck_model.specs.declared.call.Call.TheVariants.{Make, Mkdir, Rm, Rmdir, Mv, Write, Fill, Trunc}
 use Rattle.ck_model.specs.declared.reply.Reply.{Reply}
 use Rattle.ck_model.specs.declared.reply.Reply.TheVariants.{IsDir, NotEmpty, Root, TooBig, Spent}
-use Rattle.ck_model.specs.Key.{key_cmp, key_cmp_total, key_cmp_exact, is_of, is_past}
+use Rattle.ck_model.specs.Key.{key_cmp_total, key_cmp_exact, is_of, is_past}
 use Rattle.ck_model.specs.Refusals.{and_then, refuse_if}
 use Rattle.ck_model.specs.Cells.{Cells, size_at, with_cells}
 use Rattle.ck_model.specs.Walk.{file_at, directory_at, name_at, new_name_at}
 use Rattle.ck_model.specs.Changes.{cell_of, with_node, without_file, without_directory, renamed, touched, block_after, grown_to, written, cut_at, cut_to, resized}
 use Rattle.ck_model.specs.World.{World}
-use Rattle.ck_model.specs.Changing.{is_spent, has_names, with_primary, made, removed, removed_directory, moved, file_limit, overwritten, truncated}
-use Rattle.ck_model.proofs.Sizes.{len-retain_keys-le, len-insert-le, len-remove-le}
-use Rattle.ck_plain.specs.Changed.{changed_by}
+use Rattle.ck_model.specs.Changing.{is_spent, has_names, with_primary, made, removed, removed_directory, moved, overwritten, truncated, changed_by}
+use Rattle.ck_model.specs.Limits.{file_limit}
+use Rattle.ck_model.proofs.SizeLaws.{len-retain_keys-le, len-insert-le, len-remove-le}
 
 len-with_cells-le : (cells : Cells) (es : List (Key × Cell)) → map.len (with_cells cells es) ≤ map.len cells + length es
 len-with_cells-le cells [] = omega arith

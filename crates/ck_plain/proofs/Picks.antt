@@ -1,5 +1,5 @@
 -- How many picks are given up, and what is left then.
-use Rattle.std.proofs.Common.{◌≡◌, ℕ, zero, suc, ◌+◌, ◌-◌, ◌<◌, Bool, true, false, List, Option, Some, None, if◌then◌else◌, refl, sym, ap, ◌∙◌, arith}
+use Rattle.std.proofs.Common.{◌≡◌, ℕ, zero, suc, ◌+◌, ◌-◌, ◌<◌, true, false, List, Option, Some, None, if◌then◌else◌, refl, ap, ◌∙◌, arith}
 use Rattle.std.specs.Option.{option_map_or}
 use Rattle.ck_model.specs.World.{Checkpoint}
 use Rattle.ck_plain.specs.Room.{Ask, has_room, pick_among, without_id, left_of, picks_for}
@@ -26,10 +26,6 @@ picks_for-some most given ask checkpoints id within full picked =
     ap (λ n. picks_for n ask checkpoints) one_more
     ∙ ap (λ b. if b then 0 else after_pick left ask checkpoints (pick_among checkpoints)) full
     ∙ ap (after_pick left ask checkpoints) picked
-
-pub left_of-none : (given : ℕ) (checkpoints : List Checkpoint) → pick_among checkpoints ≡ None → left_of given checkpoints ≡ checkpoints
-left_of-none zero checkpoints h = refl
-left_of-none (suc given) checkpoints h = ap (λ o. option_map_or (λ id. left_of given (without_id checkpoints id)) o checkpoints) h
 
 pub left_of-some : (given : ℕ) (checkpoints : List Checkpoint) (id : ℕ) → pick_among checkpoints ≡ Some id → left_of (suc given) checkpoints ≡ left_of given (without_id checkpoints id)
 left_of-some given checkpoints id h = ap (λ o. option_map_or (λ id. left_of given (without_id checkpoints id)) o checkpoints) h

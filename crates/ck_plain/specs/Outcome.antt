@@ -3,7 +3,7 @@ use Rattle.std.specs.Prelude.{◌≤◌, ⊤}
 use Rattle.ck_model.specs.declared.call.Call.{Call}
 use Rattle.ck_model.specs.declared.call.Call.TheVariants.{Write, Fill, Trunc, Read, Cread, Backup, Full}
 use Rattle.ck_model.specs.World.{World}
-use Rattle.ck_model.specs.Changing.{file_limit}
+use Rattle.ck_model.specs.Limits.{file_limit}
 use Rattle.ck_model.specs.Step.{Outcome}
 use Rattle.ck_plain.specs.declared.answer.Answer.{Answer}
 

@@ -3,7 +3,6 @@ use Rattle.std.specs.Prelude.{◌≤◌, ◌<◌, ◌^◌}
 use Rattle.std.specs.FinMap as map
 use Rattle.ck_model.specs.declared.checkpoint.Counters.{Counters}
 use Rattle.ck_model.specs.Cells.{Cells}
-use Rattle.ck_model.specs.World.{World}
 
 -- no stamp is above the one at which none is left
 abbrev pub HasStamps : Counters → Type 0
@@ -12,8 +11,3 @@ HasStamps next = next.stamp ≤ 2 ^ 63
 -- a map whose cells can be counted in a reply
 abbrev pub IsCountable : Cells → Type 0
 IsCountable cells = map.len cells < 2 ^ 32
-
--- a world that the plain program can go on with
-pub record IsInRange (w : World) : Type 0 where
-  pub stamps : HasStamps w.next
-  pub countable : IsCountable w.primary

@@ -7,11 +7,8 @@ ghost use Rattle.ck_model.specs.Changes.{byte_after, block_after, cut_block};
 
 use crate::PlainMap;
 use crate::walk::content_at;
-use ck_model::{Key, NoMemory, Payload};
+use ck_model::{BLOCK, Key, NoMemory, Payload};
 use std::alloc::Global;
-
-/// The bytes of a block.
-pub const BLOCK: u64 = 4096;
 
 /// The bytes that a file's block holds, none where it has no cell.
 pub fn bytes_of(cells: &PlainMap, node: u32, index: u32) -> &[u8]

@@ -1,20 +1,18 @@
 ghost use Rattle.std.specs.Prelude.{◌≡◌, ◌≤◌, ◌<◌, ◌^◌, IfOk, replicate};
 ghost use Rattle.std.specs.List.{list_any};
 ghost use Rattle.ck_model.specs.Key.{is_name_in};
-ghost use Rattle.ck_model.specs.Changing.{is_spent, has_names, with_primary, made, removed, removed_directory, moved, overwritten, truncated, file_limit};
+ghost use Rattle.ck_model.specs.Changing.{is_spent, has_names, with_primary, made, removed, removed_directory, moved, overwritten, truncated, IsChanging, changed_by};
+ghost use Rattle.ck_model.specs.Limits.{file_limit};
 ghost use Rattle.ck_plain.specs.Plain.{world_of};
 ghost use Rattle.ck_plain.specs.Ranges.{HasStamps};
-ghost use Rattle.ck_plain.specs.Changed.{IsChanging, Answers, changed_by, with_next};
+ghost use Rattle.ck_plain.specs.Changed.{Answers, with_next};
 
 use crate::names::{renamed, with_node, without_directory, without_file};
 use crate::resizing::resized;
 use crate::walk::{directory_at, file_at, name_at, new_name_at};
 use crate::writing::written;
 use crate::{Plain, PlainMap};
-use ck_model::{Call, Cell, Counters, Key, NoMemory, Path, Payload, Reply};
-
-/// The limit of a file's size.
-pub const FILE_LIMIT: u64 = 1_073_741_824;
+use ck_model::{Call, Cell, Counters, FILE_LIMIT, Key, NoMemory, Path, Payload, Reply};
 
 /// The primary map and the numbers after a call that changes files, where there is room.
 #[derive(Drop)]

@@ -2,9 +2,8 @@ ghost use Rattle.std.specs.Prelude.{◌≡◌, ◌+◌, ◌<◌, ◌^◌};
 ghost use Rattle.std.specs.Option.{option_copied};
 ghost use Rattle.std.specs.FinMap as map;
 ghost use Rattle.ck_model.specs.Key.{is_block};
-ghost use Rattle.ck_model.specs.Cells.{differs, differences};
+ghost use Rattle.ck_model.specs.Cells.{differs, differences, is_new_in, is_gone_in};
 ghost use Rattle.ck_model.specs.Space.{block_count, own_block_count, new_block_count, is_new_block};
-ghost use Rattle.ck_model.proofs.Differences.{is_new_in, is_gone_in};
 
 use crate::PlainMap;
 use ck_model::{Cell, Key};

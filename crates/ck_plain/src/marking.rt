@@ -2,9 +2,8 @@ ghost use Rattle.std.specs.Prelude.{◌≡◌, true};
 ghost use Rattle.std.specs.FinMap as map;
 ghost use Rattle.std.specs.FinMap.{is_sorted};
 ghost use Rattle.ck_model.specs.Key.{key_cmp};
-ghost use Rattle.ck_model.specs.Cells.{marked};
+ghost use Rattle.ck_model.specs.Cells.{marked, mark_entry};
 ghost use Rattle.ck_model.specs.Ordered.{Edits};
-ghost use Rattle.ck_model.proofs.Marks.{mark_entry};
 
 use crate::counts::is_block;
 use ck_model::{Cell, Key};

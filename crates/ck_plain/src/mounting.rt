@@ -1,5 +1,5 @@
 ghost use Rattle.std.specs.Prelude.{◌≡◌, ◌≤◌, Ok, Err, IfOk, OnErr, MatchResult};
-ghost use Rattle.ck_model.specs.Changing.{file_limit};
+ghost use Rattle.ck_model.specs.Limits.{file_limit};
 ghost use Rattle.ck_model.specs.Freezing.{mounted, dismounted, mounted_checkpoint};
 ghost use Rattle.ck_model.specs.Reporting.{checkpoint_read, checkpoint_names};
 ghost use Rattle.ck_model.specs.Step.{done, answered};

@@ -1,15 +1,15 @@
 ghost use Rattle.std.specs.Prelude.{◌≡◌, ◌≤◌, ◌<◌, ◌^◌, IfOk, min, ◌-◌};
 ghost use Rattle.ck_model.specs.Reading.{file_byte, file_range, child_in, children};
 ghost use Rattle.ck_model.specs.Reporting.{range_read, names_listed, stat_reply, status_of};
-ghost use Rattle.ck_model.specs.Changing.{file_limit};
+ghost use Rattle.ck_model.specs.Limits.{file_limit};
 ghost use Rattle.ck_plain.specs.Answered.{reply_of};
 ghost use Rattle.ck_plain.specs.Ranges.{IsCountable};
 
 use crate::PlainMap;
-use crate::blocks::{BLOCK, byte_at, bytes_of};
+use crate::blocks::{byte_at, bytes_of};
 use crate::walk::{directory_at, file_at, is_directory_at, node_at};
 use crate::writing::size_at;
-use ck_model::{Cell, Child, Children, Key, NoMemory, Octets, Path, Payload, Reply};
+use ck_model::{BLOCK, Cell, Child, Children, Key, NoMemory, Octets, Path, Payload, Reply};
 use std::alloc::Global;
 
 fn file_byte(cells: &PlainMap, node: u32, at: u64) -> u8

@@ -1,13 +1,13 @@
 ghost use Rattle.std.specs.Prelude.{◌≡◌, ◌≤◌, IfOk, OnOk, nat_lt, if◌then◌else◌};
 ghost use Rattle.ck_model.specs.Cells.{size_at, with_cells};
 ghost use Rattle.ck_model.specs.Changes.{cut_at, cut_to, resized};
-ghost use Rattle.ck_model.specs.Changing.{file_limit};
+ghost use Rattle.ck_model.specs.Limits.{file_limit};
 
 use crate::PlainMap;
-use crate::blocks::{BLOCK, cut_block};
+use crate::blocks::cut_block;
 use crate::names::cell_of;
 use crate::writing::size_at;
-use ck_model::{Key, NoMemory, Octets, Payload};
+use ck_model::{BLOCK, Key, NoMemory, Octets, Payload};
 use std::alloc::Global;
 
 /// Puts the last block below a size with zeros behind it, where the size cuts it and it has a cell.

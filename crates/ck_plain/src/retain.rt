@@ -4,8 +4,7 @@ ghost use Rattle.std.specs.FinMap.{is_sorted};
 ghost use Rattle.ck_model.specs.Key.{key_cmp, is_of, is_past};
 ghost use Rattle.ck_model.specs.Ordered.{Edits};
 
-use crate::blocks::BLOCK;
-use ck_model::{Cell, Key};
+use ck_model::{BLOCK, Cell, Key};
 
 fn is_of(node: u32, key: &Key) -> bool
     ensures { result ≡ is_of node key.now }

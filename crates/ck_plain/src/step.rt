@@ -5,15 +5,15 @@ ghost use Rattle.ck_model.specs.Space.{new_block_count};
 ghost use Rattle.ck_model.specs.Streams.{Texts};
 ghost use Rattle.ck_model.specs.Step.{with_room, changing, step};
 ghost use Rattle.ck_plain.specs.Plain.{world_of};
-ghost use Rattle.ck_plain.specs.Changed.{IsChanging, changed_by, with_next};
+ghost use Rattle.ck_plain.specs.Changed.{with_next};
+ghost use Rattle.ck_model.specs.Changing.{IsChanging, changed_by};
 ghost use Rattle.ck_plain.specs.Outcome.{IsPlainCall, outcome_with, with_files};
 
-use crate::changes::FILE_LIMIT;
 use crate::giving::{fits, give_up, no_space};
 use crate::reporting::{info_of, listing_of};
 use crate::room::Room;
 use crate::{Answer, Next, Plain, PlainMap, changed, names_listed, range_read, status_of};
-use ck_model::{Call, Cell, Counters, Key, Limits, Mounts, NoMemory, Payload, Reply};
+use ck_model::{Call, Cell, Counters, FILE_LIMIT, Key, Limits, Mounts, NoMemory, Payload, Reply};
 use std::alloc::Global;
 
 /// The plain program answers this call: its places and sizes are within the limit, and it asks for no stream.

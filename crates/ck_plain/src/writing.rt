@@ -1,14 +1,14 @@
 ghost use Rattle.std.specs.Prelude.{◌≡◌, ◌+◌, ◌≤◌, ◌<◌, IfOk, OnOk, length};
 ghost use Rattle.ck_model.specs.Cells.{size_at, with_cells};
 ghost use Rattle.ck_model.specs.Changes.{grown_to, touched, written};
-ghost use Rattle.ck_model.specs.Changing.{file_limit};
+ghost use Rattle.ck_model.specs.Limits.{file_limit};
 ghost use Rattle.ck_plain.specs.Blocks.{blocks_after};
 
 use crate::PlainMap;
-use crate::blocks::{BLOCK, block_after};
+use crate::blocks::block_after;
 use crate::names::cell_of;
 use crate::walk::content_at;
-use ck_model::{Key, NoMemory, Octets, Payload};
+use ck_model::{BLOCK, Key, NoMemory, Octets, Payload};
 use std::alloc::Global;
 
 pub fn size_at(cells: &PlainMap, node: u32) -> u64

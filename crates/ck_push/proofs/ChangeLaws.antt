@@ -1,172 +1,215 @@
--- What the conditions of a change give, and the checkpoints' entries after it.
-use Rattle.std.proofs.Common.{◌≡◌, ◌≢◌, ℕ, ◌+◌, ◌<◌, ◌≤◌, Bool, true, false, cond, not, ◌⊎◌, inl, inr, Option, Some, None, is_some, IsSome, IfSome, MatchOption, nat_eq, if◌then◌else◌, refl, sym, ap, subst, ◌∙◌, arith}
+-- What changes that may be made come to: what each leaves as it was, and that the others may be made then as before.
+use Rattle.std.proofs.Common.{◌≡◌, ◌≢◌, ℕ, ◌+◌, ◌<◌, true, false, inl, inr, Option, Some, None, is_some, IsSome, IfSome, List, [], ◌∷◌, refl, sym, ap, subst, ◌∙◌, arith, ◌≤◌}
+use Rattle.std.specs.Ordering.{eq_by_cmp, is_eq}
+use Rattle.std.specs.FinMap as map
+use Rattle.std.proofs.lemmas.Cmp.{tied_itself}
 use mathlib.Core.Bool.{false≢true}
-use Rattle.std.proofs.lemmas.Bool.Decides.{nat_tests}
 use Rattle.ck_model.specs.declared.key.Key.{Key}
 use Rattle.ck_model.specs.declared.held.Held.{Held}
-use Rattle.ck_model.specs.declared.held.Held.TheVariants.{Absent}
 use Rattle.ck_model.specs.declared.change.Change.{Change}
-use Rattle.ck_model.specs.declared.change.Change.TheVariants.{Put, Write, Del}
-use Rattle.ck_model.specs.Table.{Table, IsTable, newer, column, with_entry, spare_count, written}
-use Rattle.ck_model.specs.Held.{IsEntry, IsKey}
-use Rattle.ck_model.specs.Chain.{is_covered, is_live, newest_live_of, keeps_data}
-use Rattle.ck_model.specs.Rules.{IsOrderly, IsOwn, KeyBelow, HeldBelow, stamp_in}
-use Rattle.ck_chain.specs.Kept.{pushed}
+use Rattle.ck_model.specs.Key.{key_cmp, key_cmp_total}
+use Rattle.ck_model.specs.Held.{IsWord, IsEntry, IsKey}
+use Rattle.ck_model.specs.Table.{Table, IsTable, column, with_entry, record_count, newer}
+use Rattle.ck_model.specs.Chain.{newest_live_of, seen, is_live}
+use Rattle.ck_model.specs.Rules.{IsOrderly, IsSound}
+use Rattle.ck_model.proofs.CaseLaws.{some_is, none_some}
 use Rattle.ck_chain.specs.Naming.{block_of, IsNamed}
-use Rattle.ck_chain.specs.Needless.{tidied}
-use Rattle.ck_chain.proofs.Basics.{some_is, some_same}
-use Rattle.ck_chain.proofs.Laws.{last_passes}
-use Rattle.ck_chain.proofs.Columns.{column-with_entry}
-use Rattle.ck_chain.proofs.TidyLaws.{column-tidied}
-use Rattle.ck_chain.specs.Changes.{key_of, is_deletion, value_after}
-use Rattle.ck_push.specs.Changed.{push_into, push_of, replaced, tidied_in, changed}
-use Rattle.ck_push.specs.Growth.{one_if, growth}
-use Rattle.ck_push.proofs.PushLaws.{MaySet, IsPush, push_facts, push_above, push_bare, map_some}
-use Rattle.ck_push.proofs.SeenLaws.{after}
-use Rattle.ck_push.proofs.NeedLaws.{own_pushed, pushed_there}
-use Rattle.ck_push.proofs.CountLaws.{needless_set}
+use Rattle.ck_chain.specs.Changes.{key_of, value_after}
+use Rattle.ck_chain.proofs.ColumnLaws.{same_or_other, column-with_entry}
+use Rattle.ck_chain.proofs.PushedLaws.{entry_pushed}
+use Rattle.ck_chain.proofs.OrderlyLaws.{written_or_before, positive_id}
+use Rattle.ck_chain.proofs.TidyLaws.{column-tidied, tidied_reads}
+use Rattle.ck_chain.proofs.ReadLaws.{live_stands, last_passes}
+use Rattle.ck_push.specs.Changed.{changed, push_of, replaced, tidied_in, with_push}
+use Rattle.ck_push.specs.Growth.{gain, loss, gains, losses}
+use Rattle.ck_push.specs.Changes.{IsChange, AreMade, MayChangeAll, AllApart, IsApart, MayChange, changed_all}
+use Rattle.ck_push.proofs.ReplacedLemmas.{after_push, replaced_in_steps}
+use Rattle.ck_push.proofs.PushLemmas.{Comes, entry_comes, push_facts, push_apart}
+use Rattle.ck_push.proofs.SeenLemmas.{replaced_reads, other_tidied, other_replaced}
+use Rattle.ck_push.proofs.NeedLemmas.{sound_changed}
+use Rattle.ck_push.proofs.CountLemmas.{count_changed}
+use Rattle.ck_push.proofs.ReleaseLemmas.{changed_named}
+use Rattle.ck_push.proofs.RoomLemmas.{gain_stays, loss_stays}
+use Rattle.ck_push.proofs.ChangeLemmas.{deletes, may_set, entry_stays, bare_stays, push_stays, own_value}
 
--- a change that leaves nothing is a deletion
-pub deletes : (change : Change) (stamp : ℕ) → value_after change stamp ≡ None → is_deletion change ≡ true
-deletes (Put key small) stamp h = cc
-deletes (Write number index block) stamp h = cc
-deletes (Del key) stamp h = refl
+-- what the reader of each checkpoint that isn't gone sees stays
+pub changed_reads : (t : Table) (key : Key) (new : Option Held) → IsTable t → (fs : ℕ) (q : Key) → is_live t fs ≡ true → seen (changed t key new) fs q ≡ seen t fs q
+changed_reads t key new lawful fs q live =
+    let u = replaced t key (push_of t key) new in
+    let positive : (id : ℕ) → IsSome (map.get t.filesets id) → 1 ≤ id = λ id stands. positive_id t id lawful stands in
+    let above : 0 < fs = positive fs (live_stands t fs live) in
+    elim (newest_live_of t) as (λ o. IfSome o (λ n. is_live t n ≡ true) → seen (tidied_in u key o) fs q ≡ seen u fs q) [
+      | None ↦ λ passes. refl
+      | Some n ↦ λ passes. let stands = live_stands t n passes in tidied_reads u n key (positive n stands) stands fs q above
+    ] (last_passes (is_live t) (newer t 0))
+    ∙ replaced_reads t key new positive fs q live
 
--- room for the growth is room for the entries
-pub room_of_growth : (t : Table) (change : Change) (stamp : ℕ) → growth t change ≤ spare_count t → (is_deletion change ≡ true → IsSome (column t (key_of change) 0))
-    → MatchOption (value_after change stamp) (IsSome (column t (key_of change) 0)) (λ held. one_if (is_some (push_of t (key_of change))) + one_if (not (is_some (column t (key_of change) 0))) ≤ spare_count t)
-room_of_growth t (Put key small) stamp room there = omega arith
-room_of_growth t (Write number index block) stamp room there = omega arith
-room_of_growth t (Del key) stamp room there = there refl
+-- no other key's entries change
+pub others_stay : (t : Table) (key : Key) (new : Option Held) (q : Key) → q ≢ key → column (changed t key new) q ≡ column t q
+others_stay t key new q differ =
+    other_tidied (replaced t key (push_of t key) new) key (newest_live_of t) q differ
+    ∙ other_replaced t key (push_of t key) new q differ
 
--- the key is one that a table may have
-pub key_place : (t : Table) (change : Change) (stamp : ℕ) → IsTable t → (is_deletion change ≡ true → IsSome (column t (key_of change) 0)) → IfSome (value_after change stamp) (IsEntry (key_of change)) → IsKey (key_of change)
-key_place t (Put key small) stamp lawful there entry = entry.place
-key_place t (Write number index block) stamp lawful there entry = entry.place
-key_place t (Del key) stamp lawful there entry = let found = some_is (column t key 0) (there refl) in (lawful.entries 0 key found.0 found.1).1.place
+-- the primary's entry is the new one
+pub primary_changed : (t : Table) (key : Key) (new : Option Held) → IsTable t → column (changed t key new) key 0 ≡ new
+primary_changed t key new lawful =
+    let u = replaced t key (push_of t key) new in
+    elim (newest_live_of t) as (λ o. IfSome o (λ n. is_live t n ≡ true) → column (tidied_in u key o) key 0 ≡ column u key 0) [
+      | None ↦ λ passes. refl
+      | Some n ↦ λ passes.
+          let above = positive_id t n lawful (live_stands t n passes) in
+          elim (column-tidied u n key 0 key) [ inl same ↦ same | inr gone ↦ let zero = gone.0 in absurd (omega arith) ]
+    ] (last_passes (is_live t) (newer t 0))
+    ∙ column-with_entry (record t { entries = with_push t.entries key (push_of t key) }) 0 key new 0
 
--- and its numbers were given
-pub key_below : (t : Table) (change : Change) (stamp : ℕ) → IsOrderly t → (is_deletion change ≡ true → IsSome (column t (key_of change) 0))
-    → IfSome (value_after change stamp) (λ held. KeyBelow t.counters.number (key_of change) × HeldBelow t.counters.number held) → KeyBelow t.counters.number (key_of change)
-key_below t (Put key small) stamp is there numbers = numbers.0
-key_below t (Write number index block) stamp is there numbers = numbers.0
-key_below t (Del key) stamp is there numbers = let found = some_is (column t key 0) (there refl) in (is.numbers 0 key found.0 found.1).0
+-- ---- its records are within their limits
 
--- the new entry may become the primary's
-pub may_set : (t : Table) (change : Change) (stamp : ℕ) → stamp < t.counters.stamp
-    → ((fs : ℕ) (held : Held) → column t (key_of change) fs ≡ Some held → stamp_in held ≢ Some stamp)
-    → IfSome (value_after change stamp) (λ held. KeyBelow t.counters.number (key_of change) × HeldBelow t.counters.number held)
-    → IfSome (block_of (value_after change stamp)) (λ block. (block < t.blocks) × (IsNamed t block → ⊥))
-    → IfSome (value_after change stamp) (MaySet t (key_of change))
-may_set t (Put key small) stamp next version numbers block = record {
-  stamp = next;
-  number = numbers;
-  block = tt;
-  own = tt;
-  free = λ at names named. cc;
-  version = λ fs again s at of_again of_new. version fs again at (of_again ∙ sym of_new);
-}
-may_set t (Write number index place) stamp next version numbers block = record {
-  stamp = next;
-  number = numbers;
-  block = block.0;
-  own = tt;
-  free = λ at names named. block.1 (subst (IsNamed t) (sym (same_number place at names)) named);
-  version = λ fs again s at of_again of_new. version fs again at (of_again ∙ sym of_new);
+-- what stands after the tidying stood before
+before_tidied : (u : Table) (key : Key) (o : Option ℕ) (fs : ℕ) (q : Key) (held : Held) → column (tidied_in u key o) q fs ≡ Some held → column u q fs ≡ Some held
+before_tidied u key None fs q held h = h
+before_tidied u key (Some n) fs q held h = elim (column-tidied u n key fs q) [
+  | inl same ↦ sym same ∙ h
+  | inr gone ↦ absurd (none_some held (sym gone.3 ∙ h))
+]
+
+comes_entry : (t : Table) (key : Key) (fs : ℕ) (held : Held) → IsTable t → IsKey key → Comes t key fs key held → IsEntry key held
+comes_entry t key fs held lawful place comes = elim comes [
+  | inl stood ↦ (lawful.entries fs key held stood).1
+  | inr rest ↦ elim rest [
+    | inl moved ↦ let old = moved.1 in subst (IsEntry key) (sym old.1.1.1) (entry_pushed old.1.1.0 key old.0 (lawful.entries 0 key old.0 old.1.0).1)
+    | inr absent ↦ subst (IsEntry key) (sym absent) (record { place = place; value = tt })
+  ]
+]
+
+entry_here : (t : Table) (key : Key) (new : Option Held) → IsTable t → IsKey key → IfSome new (IsEntry key) → (fs : ℕ) (held : Held) → column (changed t key new) key fs ≡ Some held → IsEntry key held
+entry_here t key new lawful place entry fs held has =
+    let u = replaced t key (push_of t key) new in
+    let replaced_has : column u key fs ≡ Some held = before_tidied u key (newest_live_of t) fs key held has in
+    let v = after_push (with_entry t 0 key None) key (push_of t key) in
+    let steps : column (with_entry v 0 key new) key fs ≡ Some held = ap (λ (x : Table). column x key fs) (replaced_in_steps t key (push_of t key) new (push_apart t key lawful)) ∙ replaced_has in
+    elim (written_or_before v 0 key new fs key held steps) [
+      | inl is ↦ subst (λ o. IfSome o (IsEntry key)) is.2 entry
+      | inr stood ↦ comes_entry t key fs held lawful place (entry_comes t key (push_of t key) (push_facts t key) fs key held stood)
+    ]
+
+-- each record is within its limits after a change
+lawful_changed : (t : Table) (key : Key) (new : Option Held) → IsTable t → IsOrderly (changed t key new) → IsKey key → IfSome new (IsEntry key) → IsTable (changed t key new)
+lawful_changed t key new lawful orderly place entry = record {
+  entries = λ fs q held has. (
+    word fs q held has,
+    elim (same_or_other q key) [
+      | inl same ↦ subst (λ k. IsEntry k held) (sym same) (entry_here t key new lawful place entry fs held (ap (λ k. column (changed t key new) k fs) (sym same) ∙ has))
+      | inr other ↦ (lawful.entries fs q held (ap (λ (c : ℕ → Option Held). c fs) (sym (others_stay t key new q (apart q key other))) ∙ has)).1
+    ],
+  );
+  filesets = lawful.filesets;
+  counters = lawful.counters;
 }
   where
-    same_number : (x y : ℕ) → ◌≡◌ {A = Option ℕ} (Some x) (Some y) → x ≡ y
-    same_number x y h = cc
-may_set t (Del key) stamp next version numbers block = tt
+    apart : (q k : Key) → eq_by_cmp key_cmp q k ≡ false → q ≢ k
+    apart q k other same = false≢true (sym other ∙ ap (λ x. eq_by_cmp key_cmp x k) same ∙ ap is_eq (tied_itself key_cmp_total k))
 
--- the new entry names no block that was named
-pub new_block : (t : Table) (change : Change) (stamp : ℕ) → IfSome (block_of (value_after change stamp)) (λ block. (block < t.blocks) × (IsNamed t block → ⊥))
-    → (block : ℕ) → block_of (value_after change stamp) ≡ Some block → IsNamed t block → ⊥
-new_block t change stamp free block is = (subst (λ o. IfSome o (λ at. (at < t.blocks) × (IsNamed t at → ⊥))) is free).1
-
-there_twice : (o : Option Held) → o ≡ None → IsSome o → ⊥
-there_twice o none some = false≢true (sym (ap is_some none) ∙ some)
-
--- an entry of a checkpoint stays as the primary's is replaced
-replaced_entry : (t : Table) (key : Key) (push : Option (ℕ × Held)) (new : Option Held) → IfSome push (IsPush t key) → (fs : ℕ) → 0 < fs → IsSome (column t key fs) → column (replaced t key push new) key fs ≡ column t key fs
-replaced_entry t key None new facts fs above some = column-with_entry t 0 key new fs ∙ grind (arith, nat_tests)
-replaced_entry t key (Some entry) new facts fs above some =
-    let last : column (replaced t key (Some entry) new) key fs ≡ column (with_entry t entry.0 key (Some entry.1)) key fs = column-with_entry (with_entry t entry.0 key (Some entry.1)) 0 key new fs ∙ grind (arith, nat_tests) in
-    last ∙ column-with_entry t entry.0 key (Some entry.1) fs
-    ∙ elim (nat_eq fs entry.0) as (λ b. nat_eq fs entry.0 ≡ b → cond b (Some entry.1) (column t key fs) ≡ column t key fs) [
-      | true ↦ λ e. let same : fs ≡ entry.0 = grind (arith, nat_tests) in absurd (there_twice (column t key fs) (ap (column t key) same ∙ push_bare t key entry facts) some)
-      | false ↦ λ e. refl
-    ] refl
-
--- it stays after a change, or was an absent that goes
-pub entry_stays : (t : Table) (key : Key) (new : Option Held) → IsTable t → (fs : ℕ) → 0 < fs → IsSome (column t key fs)
-    → (column (changed t key new) key fs ≡ column t key fs) ⊎ ((column t key fs ≡ Some Absent) × (column (changed t key new) key fs ≡ None))
-entry_stays t key new lawful fs above some =
-    let u = replaced t key (push_of t key) new in
-    let first : column u key fs ≡ column t key fs = replaced_entry t key (push_of t key) new (push_facts t key) fs above some in
-    elim (newest_live_of t) as (λ o. (column (tidied_in u key o) key fs ≡ column t key fs) ⊎ ((column t key fs ≡ Some Absent) × (column (tidied_in u key o) key fs ≡ None))) [
-      | None ↦ inl first
-      | Some n ↦ elim (column-tidied u n key fs key) [
-        | inl same ↦ inl (same ∙ first)
-        | inr gone ↦ inr (sym first ∙ gone.2, gone.3)
-      ]
+    word : (fs : ℕ) (q : Key) (held : Held) → column (changed t key new) q fs ≡ Some held → IsWord fs
+    word fs q held has = elim (orderly.homes fs q (ap is_some has)) [
+      | inl first ↦ subst IsWord (sym first) (omega arith)
+      | inr there ↦ let f = some_is (map.get t.filesets fs) there in (lawful.filesets fs f.0 f.1).word
     ]
 
--- where a checkpoint has no entry and gets none, it has none as the primary's is replaced
-replaced_bare : (t : Table) (key : Key) (push : Option (ℕ × Held)) (new : Option Held) (fs : ℕ) → 0 < fs → IfSome push (λ entry. entry.0 ≢ fs) → column (replaced t key push new) key fs ≡ column t key fs
-replaced_bare t key None new fs above apart = column-with_entry t 0 key new fs ∙ grind (arith, nat_tests)
-replaced_bare t key (Some entry) new fs above apart =
-    let last : column (replaced t key (Some entry) new) key fs ≡ column (with_entry t entry.0 key (Some entry.1)) key fs = column-with_entry (with_entry t entry.0 key (Some entry.1)) 0 key new fs ∙ grind (arith, nat_tests) in
-    last ∙ column-with_entry t entry.0 key (Some entry.1) fs
-    ∙ elim (nat_eq fs entry.0) as (λ b. nat_eq fs entry.0 ≡ b → cond b (Some entry.1) (column t key fs) ≡ column t key fs) [
-      | true ↦ λ e. let same : fs ≡ entry.0 = grind (arith, nat_tests) in absurd (apart (sym same))
-      | false ↦ λ e. refl
-    ] refl
+-- ---- one change, which may be made
 
--- and after a change
-pub bare_stays : (t : Table) (key : Key) (new : Option Held) (fs : ℕ) → 0 < fs → IfSome (push_of t key) (λ entry. entry.0 ≢ fs) → column t key fs ≡ None → column (changed t key new) key fs ≡ None
-bare_stays t key new fs above apart none =
-    let u = replaced t key (push_of t key) new in
-    let first : column u key fs ≡ None = replaced_bare t key (push_of t key) new fs above apart ∙ none in
-    elim (newest_live_of t) as (λ o. column (tidied_in u key o) key fs ≡ None) [
-      | None ↦ first
-      | Some n ↦ elim (column-tidied u n key fs key) [ inl same ↦ same ∙ first | inr gone ↦ gone.3 ]
-    ]
+module _ (t : Table) (item : Change) (stamp : ℕ) (lawful : IsTable t) (sound : IsSound t) (below : stamp < t.counters.stamp) (may : MayChange t item stamp) where
+  abbrev after : Table
+  after = changed t (key_of item) (value_after item stamp)
 
--- what is pushed is there, also after the tidying
-push_there : (t : Table) (n : ℕ) (key : Key) (new : Option Held) → IsOrderly t → newest_live_of t ≡ Some n → 0 < n → is_covered t n key ≡ false → IfSome new IsOwn → (new ≡ None → IsSome (column t key 0))
-    → column (tidied (after t n key new) n key) key n ≡ Some (pushed (keeps_data t n) (column t key 0))
-push_there t n key None is newest above bare own there =
-    let u = after t n key None in
-    let pushes : column u key n ≡ Some (pushed (keeps_data t n) (column t key 0)) = pushed_there t n key None above bare in
-    elim (column-tidied u n key n key) [
-      | inl same ↦ same ∙ pushes
-      | inr gone ↦
-          let old = some_is (column t key 0) (there refl) in
-          let absent : pushed (keeps_data t n) (Some old.0) ≡ Absent = some_same _ _ (ap (λ o. Some (pushed (keeps_data t n) o)) (sym old.1) ∙ sym pushes ∙ gone.2) in
-          absurd (own_pushed (keeps_data t n) old.0 (is.primary key old.0 old.1) absent)
-    ]
-push_there t n key (Some new) is newest above bare own there =
-    let u = after t n key (Some new) in
-    ap (λ (b : Bool). column (record u { entries = if b then written u.entries n key None else u.entries }) key n) (needless_set t n key new is newest above own)
-    ∙ pushed_there t n key (Some new) above bare
+  pub sound_after : IsSound after
+  sound_after = sound_changed t (key_of item) (value_after item stamp) lawful sound may.below (may_set t item stamp below may.version may.numbers may.block)
 
-push_at : (t : Table) (key : Key) (new : Option Held) (entry : ℕ × Held) → IsTable t → IsOrderly t → IfSome new IsOwn → (new ≡ None → IsSome (column t key 0)) → IsPush t key entry → column (changed t key new) key entry.0 ≡ Some entry.1
-push_at t key new entry lawful is own there push =
-    ap (λ o. column (tidied_in (replaced t key (push_into t key o) new) key o) key entry.0) push.newest
-    ∙ push_there t entry.0 key new is push.newest (push_above t key entry lawful push) push.bare own there
-    ∙ ap (λ (h : Held). Some h) (sym push.is)
+  pub lawful_after : IsTable after
+  lawful_after = lawful_changed t (key_of item) (value_after item stamp) lawful sound_after.orderly may.key may.entry
 
-pub push_stays : (t : Table) (key : Key) (new : Option Held) → IsTable t → IsOrderly t → IfSome new IsOwn → (new ≡ None → IsSome (column t key 0))
-    → IfSome (push_of t key) (λ entry. column (changed t key new) key entry.0 ≡ Some entry.1)
-push_stays t key new lawful is own there = map_some (IsPush t key) (λ entry. column (changed t key new) key entry.0 ≡ Some entry.1) (push_of t key) (λ entry push. push_at t key new entry lawful is own there push) (push_facts t key)
+  pub counted_after : record_count after + loss t item ≡ record_count t + gain t item
+  counted_after = count_changed t item stamp lawful sound.orderly (λ none. may.deleted (deletes item stamp none))
 
--- what a change sets may stand in the primary
-pub own_value : (change : Change) (stamp : ℕ) → IfSome (value_after change stamp) IsOwn
-own_value (Put key small) stamp = tt
-own_value (Write number index block) stamp = tt
-own_value (Del key) stamp = tt
+  -- a change of another key may be made then as before
+  pub may_after : (other : Change) → IsApart stamp item other → MayChange t other stamp → MayChange after other stamp
+  may_after other apart again =
+      let same : column after (key_of other) ≡ column t (key_of other) = others_stay t (key_of item) (value_after item stamp) (key_of other) apart.key in
+      record {
+        key = again.key;
+        below = again.below;
+        deleted = λ is. subst IsSome (ap (λ (c : ℕ → Option Held). c 0) (sym same)) (again.deleted is);
+        entry = again.entry;
+        version = λ fs held has. again.version fs held (ap (λ (c : ℕ → Option Held). c fs) (sym same) ∙ has);
+        numbers = again.numbers;
+        block = free_after other apart again;
+      }
+    where
+      free_after : (other : Change) → IsApart stamp item other → MayChange t other stamp → IfSome (block_of (value_after other stamp)) (λ b. (b < t.blocks) × (IsNamed after b → ⊥))
+      free_after other apart again = elim (block_of (value_after other stamp)) as (λ o. block_of (value_after other stamp) ≡ o → IfSome o (λ b. (b < t.blocks) × (IsNamed t b → ⊥)) → IfSome o (λ b. (b < t.blocks) × (IsNamed after b → ⊥))) [
+        | None ↦ λ _ _. tt
+        | Some b ↦ λ is free. (
+          free.0,
+          λ named. elim (changed_named t (key_of item) (value_after item stamp) b lawful named) [
+            | inl was ↦ free.1 was
+            | inr new ↦ apart.block b new is
+          ],
+        )
+      ] refl again.block
 
--- the newest checkpoint isn't gone
-pub newest_live : (t : Table) → IfSome (newest_live_of t) (λ n. is_live t n ≡ true)
-newest_live t = last_passes (is_live t) (newer t 0)
+  pub may_all_after : (others : List Change) → AllApart stamp item others → MayChangeAll t others stamp → MayChangeAll after others stamp
+  may_all_after [] apart may = tt
+  may_all_after (other ∷ others) apart may = (may_after other apart.0 may.0, may.1, may_all_after others apart.1 may.2)
+
+-- ---- all that a change does
+
+pub is_change : (t : Table) (item : Change) (stamp : ℕ) → IsTable t → IsSound t → stamp < t.counters.stamp → MayChange t item stamp → IsChange t item stamp (changed t (key_of item) (value_after item stamp))
+is_change t item stamp lawful sound below may =
+    let key = key_of item in
+    let new = value_after item stamp in
+    record {
+      changed = refl;
+      primary = primary_changed t key new lawful;
+      pushed = push_stays t key new lawful sound.orderly (own_value item stamp) (λ none. may.deleted (deletes item stamp none));
+      stays = λ fs above some. entry_stays t key new lawful fs above some;
+      bare = λ fs above apart none. bare_stays t key new fs above apart none;
+      others = λ q differ. others_stay t key new q differ;
+      filesets = refl;
+      counters = refl;
+      blocks = refl;
+      limit = refl;
+      kept = λ fs q live. changed_reads t key new lawful fs q live;
+      lawful = lawful_after t item stamp lawful sound below may;
+      sound = sound_after t item stamp lawful sound below may;
+      named = λ block named. changed_named t key new block lawful named;
+      records = counted_after t item stamp lawful sound below may;
+    }
+
+-- ---- all of them
+
+pub gains_stay : (t : Table) (item : Change) (stamp : ℕ) → (others : List Change) → AllApart stamp item others → gains (changed t (key_of item) (value_after item stamp)) others ≡ gains t others
+gains_stay t item stamp [] apart = refl
+gains_stay t item stamp (other ∷ others) apart = λ i.
+    gain_stays t (changed t (key_of item) (value_after item stamp)) other refl (others_stay t (key_of item) (value_after item stamp) (key_of other) apart.0.key) i
+    + gains_stay t item stamp others apart.1 i
+
+pub losses_stay : (t : Table) (item : Change) (stamp : ℕ) → (others : List Change) → AllApart stamp item others → losses (changed t (key_of item) (value_after item stamp)) others ≡ losses t others
+losses_stay t item stamp [] apart = refl
+losses_stay t item stamp (other ∷ others) apart = λ i.
+    loss_stays t (changed t (key_of item) (value_after item stamp)) other refl (others_stay t (key_of item) (value_after item stamp) (key_of other) apart.0.key) i
+    + losses_stay t item stamp others apart.1 i
+
+pub are_made : (t : Table) (items : List Change) (stamp : ℕ) → IsTable t → IsSound t → stamp < t.counters.stamp → MayChangeAll t items stamp → AreMade t (changed_all t items stamp) items
+are_made t [] stamp lawful sound below may = record { lawful = lawful; sound = sound; filesets = refl; counters = refl; blocks = refl; records = refl; counted = refl }
+are_made t (item ∷ items) stamp lawful sound below may =
+    let u = changed t (key_of item) (value_after item stamp) in
+    let rest = are_made u items stamp (lawful_after t item stamp lawful sound below may.0) (sound_after t item stamp lawful sound below may.0) below (may_all_after t item stamp lawful sound below may.0 items may.1 may.2) in
+    let counted = counted_after t item stamp lawful sound below may.0 in
+    record {
+      lawful = rest.lawful;
+      sound = rest.sound;
+      filesets = rest.filesets;
+      counters = rest.counters;
+      blocks = rest.blocks;
+      records = rest.records;
+      counted = omega (arith, counted, rest.counted, gains_stay t item stamp items may.1, losses_stay t item stamp items may.1);
+    }

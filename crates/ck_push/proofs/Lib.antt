@@ -1,8 +1,10 @@
-pub mod Replacing
-pub mod PushLaws
-pub mod ReleaseLaws
-pub mod SeenLaws
-pub mod NeedLaws
-pub mod CountLaws
+pub mod ReplacedLemmas
+pub mod PushLemmas
+pub mod ReleaseLemmas
+pub mod SeenLemmas
+pub mod NeedLemmas
+pub mod CountLemmas
+pub mod ChangeLemmas
+pub mod RoomLemmas
 pub mod ChangeLaws
 pub mod RoomLaws

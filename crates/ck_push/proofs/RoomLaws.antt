@@ -1,130 +1,40 @@
--- Several changes of different keys, the deletions first: where there is room for all together, each has room in its turn.
-use Rattle.std.proofs.Common.{◌≡◌, ℕ, ◌+◌, ◌-◌, ◌≤◌, Bool, true, false, ◌&&◌, ◌||◌, not, List, [], ◌∷◌, ◌++◌, Option, Some, None, is_some, if◌then◌else◌, refl, sym, ap, ◌∙◌, arith}
+-- Several changes, the deletions first: once there is room for all, each has room in its turn.
+use Rattle.std.proofs.Common.{◌≡◌, ◌+◌, ◌-◌, ◌≤◌, true, false, not, ◌&&◌, ◌||◌, List, ◌∷◌, refl, sym, ap, ◌∙◌, arith}
 use Rattle.std.specs.List.{list_any}
-use Rattle.ck_model.specs.declared.key.Key.{Key}
-use Rattle.ck_model.specs.declared.held.Held.{Held}
 use Rattle.ck_model.specs.declared.change.Change.{Change}
-use Rattle.ck_model.specs.Table.{Table, Filesets, newer, column, record_count, spare_count}
-use Rattle.ck_model.specs.Chain.{keeps_data, newest_live_of}
+use Rattle.ck_model.specs.Table.{Table, record_count, spare_count}
+use Rattle.ck_model.specs.Chain.{newest_live_of}
+use Rattle.ck_model.proofs.CaseLaws.{and_left, not_true}
 use Rattle.ck_chain.specs.Changes.{deletions_first, is_deletion, key_of}
-use Rattle.ck_chain.specs.Kept.{pushed}
-use Rattle.ck_chain.specs.Needless.{is_absent}
-use Rattle.ck_chain.proofs.Basics.{and_left, and_right, not_true}
-use Rattle.ck_push.specs.Changed.{push_into, push_of}
-use Rattle.ck_push.specs.Growth.{absent_goes, gain, gains, growth, loss, losses, one_if}
+use Rattle.ck_push.specs.Growth.{gain, loss, gains, losses, growth, one_if, absent_goes}
+use Rattle.ck_push.proofs.RoomLemmas.{deletion_grows, no_losses}
 
--- what is pushed, from a column
-abbrev push_via : Table → (ℕ → Option Held) → Option ℕ → Option (ℕ × Held)
-push_via t c None = None
-push_via t c (Some fs) = if list_any (λ id. is_some (c id)) (fs ∷ newer t fs) then None else Some (fs, pushed (keeps_data t fs) (c 0))
+-- a change that is no deletion takes none away
+no_loss : (t : Table) (item : Change) → is_deletion item ≡ false → loss t item ≡ 0
+no_loss t item h = ap (λ b. one_if b + one_if (b && absent_goes t (key_of item) (newest_live_of t))) h
 
-push_from : (t : Table) (key : Key) (fs : Option ℕ) → push_into t key fs ≡ push_via t (column t key) fs
-push_from t key None = refl
-push_from t key (Some fs) = refl
+-- the first one has room
+pub room_first : (t : Table) (item : Change) (items : List Change) → deletions_first (item ∷ items) ≡ true → gains t (item ∷ items) - losses t (item ∷ items) ≤ spare_count t → growth t item ≤ spare_count t
+room_first t item items first room =
+    elim (is_deletion item) as (λ b. is_deletion item ≡ b → growth t item ≤ spare_count t) [
+      | true ↦ λ is. let none = deletion_grows t item is in omega (arith, none)
+      | false ↦ λ is.
+          let left : not (list_any is_deletion items) ≡ true = sym (ap (λ b. b || not (list_any is_deletion items)) is) ∙ and_left (is_deletion item || not (list_any is_deletion items)) (deletions_first items) first in
+          let none = no_losses t items (not_true (list_any is_deletion items) left) in
+          let here = no_loss t item is in
+          omega (arith, room, none, here)
+    ] refl
 
-abbrev goes_via : Table → (ℕ → Option Held) → Option ℕ → Bool
-goes_via t c None = false
-goes_via t c (Some fs) = is_absent (c fs) && not (list_any (λ id. is_some (c id)) (newer t fs))
-
-goes_from : (t : Table) (key : Key) (fs : Option ℕ) → absent_goes t key fs ≡ goes_via t (column t key) fs
-goes_from t key None = refl
-goes_from t key (Some fs) = refl
-
--- two tables with the same filesets that hold the same at a key push the same
-same_push : (t u : Table) (key : Key) → u.filesets ≡ t.filesets → column u key ≡ column t key → push_of u key ≡ push_of t key
-same_push t u key filesets same =
-    push_from u key (newest_live_of u)
-    ∙ ap (λ (f : Filesets). push_via (record u { filesets = f }) (column u key) (newest_live_of (record u { filesets = f }))) filesets
-    ∙ ap (λ (c : ℕ → Option Held). push_via (record u { filesets = t.filesets }) c (newest_live_of t)) same
-    ∙ moved t u (column t key) (newest_live_of t)
-    ∙ sym (push_from t key (newest_live_of t))
-  where
-    moved : (t u : Table) (c : ℕ → Option Held) (fs : Option ℕ) → push_via (record u { filesets = t.filesets }) c fs ≡ push_via t c fs
-    moved t u c None = refl
-    moved t u c (Some fs) = refl
-
-same_goes : (t u : Table) (key : Key) → u.filesets ≡ t.filesets → column u key ≡ column t key → absent_goes u key (newest_live_of u) ≡ absent_goes t key (newest_live_of t)
-same_goes t u key filesets same =
-    goes_from u key (newest_live_of u)
-    ∙ ap (λ (f : Filesets). goes_via (record u { filesets = f }) (column u key) (newest_live_of (record u { filesets = f }))) filesets
-    ∙ ap (λ (c : ℕ → Option Held). goes_via (record u { filesets = t.filesets }) c (newest_live_of t)) same
-    ∙ moved t u (column t key) (newest_live_of t)
-    ∙ sym (goes_from t key (newest_live_of t))
-  where
-    moved : (t u : Table) (c : ℕ → Option Held) (fs : Option ℕ) → goes_via (record u { filesets = t.filesets }) c fs ≡ goes_via t c fs
-    moved t u c None = refl
-    moved t u c (Some fs) = refl
-
--- what a change adds doesn't depend on other keys
-pub gain_stays : (t u : Table) (change : Change) → u.filesets ≡ t.filesets → column u (key_of change) ≡ column t (key_of change) → gain u change ≡ gain t change
-gain_stays t u change filesets same = λ i.
-    one_if (is_some (same_push t u (key_of change) filesets same i)) + one_if (not (is_deletion change) && not (is_some (same i 0)))
-
--- nor does what it takes away
-pub loss_stays : (t u : Table) (change : Change) → u.filesets ≡ t.filesets → column u (key_of change) ≡ column t (key_of change) → loss u change ≡ loss t change
-loss_stays t u change filesets same = λ i.
-    one_if (is_deletion change) + one_if (is_deletion change && same_goes t u (key_of change) filesets same i)
-
-pub gains-append : (t : Table) (xs ys : List Change) → gains t (xs ++ ys) ≡ gains t xs + gains t ys
-gains-append t [] ys = omega arith
-gains-append t (x ∷ xs) ys = let rest = gains-append t xs ys in omega arith
-
-pub losses-append : (t : Table) (xs ys : List Change) → losses t (xs ++ ys) ≡ losses t xs + losses t ys
-losses-append t [] ys = omega arith
-losses-append t (x ∷ xs) ys = let rest = losses-append t xs ys in omega arith
-
--- so many records stand once these changes are made
-abbrev pub IsCounted : Table → List Change → Table → Type 0
-IsCounted t made u = record_count u + losses t made ≡ record_count t + gains t made
-
--- and once another one is
-pub counted_next : (t u v : Table) (made : List Change) (change : Change) → IsCounted t made u → u.filesets ≡ t.filesets → column u (key_of change) ≡ column t (key_of change)
-    → record_count v + loss u change ≡ record_count u + gain u change → IsCounted t (made ++ change ∷ []) v
-counted_next t u v made change counted filesets same step =
-    let more = gains-append t made (change ∷ []) in
-    let fewer = losses-append t made (change ∷ []) in
-    let adds = gain_stays t u change filesets same in
-    let takes = loss_stays t u change filesets same in
-    omega arith
-
-no_losses : (t : Table) (changes : List Change) → list_any is_deletion changes ≡ false → losses t changes ≡ 0
-no_losses t [] h = refl
-no_losses t (change ∷ changes) h =
-    elim (is_deletion change) as (λ b. (b || list_any is_deletion changes) ≡ false → one_if b + one_if (b && absent_goes t (key_of change) (newest_live_of t)) + losses t changes ≡ 0) [
-      | true ↦ λ h. cc
-      | false ↦ λ h. let rest = no_losses t changes h in omega arith
-    ] h
-
-last_part : (made : List Change) (change : Change) (left : List Change) → deletions_first (made ++ change ∷ left) ≡ true → (is_deletion change || not (list_any is_deletion left)) ≡ true
-last_part [] change left h = and_left (is_deletion change || not (list_any is_deletion left)) (deletions_first left) h
-last_part (x ∷ made) change left h = last_part made change left (and_right (is_deletion x || not (list_any is_deletion (made ++ change ∷ left))) (deletions_first (made ++ change ∷ left)) h)
-
-one_at_most : (b : Bool) → one_if b ≤ 1
-one_at_most true = omega arith
-one_at_most false = omega arith
-
--- a deletion takes no room
-pub deletion_grows : (t : Table) (change : Change) → is_deletion change ≡ true → growth t change ≡ 0
-deletion_grows t change deletes =
-    let adds : gain t change ≡ one_if (is_some (push_of t (key_of change))) + 0 = ap (λ b. one_if (is_some (push_of t (key_of change))) + one_if (not b && not (is_some (column t (key_of change) 0)))) deletes in
-    let takes : loss t change ≡ 1 + one_if (absent_goes t (key_of change) (newest_live_of t)) = ap (λ b. one_if b + one_if (b && absent_goes t (key_of change) (newest_live_of t))) deletes in
-    let most = one_at_most (is_some (push_of t (key_of change))) in
-    omega arith
-
--- Once there is room for the growth of all changes together, each has room for its own after those before it.
-pub room_in_turn : (t u : Table) (made : List Change) (change : Change) (left : List Change) → record_count t ≤ t.records → u.records ≡ t.records
-    → deletions_first (made ++ change ∷ left) ≡ true → gains t (made ++ change ∷ left) - losses t (made ++ change ∷ left) ≤ spare_count t
-    → IsCounted t made u → u.filesets ≡ t.filesets → column u (key_of change) ≡ column t (key_of change) → growth u change ≤ spare_count u
-room_in_turn t u made change left fits limit first room counted filesets same = go (is_deletion change) refl
-  where
-    go : (deletes : Bool) → is_deletion change ≡ deletes → growth u change ≤ spare_count u
-    go true h = let none = deletion_grows u change h in omega arith
-    go false h =
-        let part : (is_deletion change || not (list_any is_deletion left)) ≡ true = last_part made change left first in
-        let put : not (list_any is_deletion left) ≡ true = sym (ap (λ b. b || not (list_any is_deletion left)) h) ∙ part in
-        let none : losses t left ≡ 0 = no_losses t left (not_true (list_any is_deletion left) put) in
-        let takes : loss t change ≡ 0 = ap (λ b. one_if b + one_if (b && absent_goes t (key_of change) (newest_live_of t))) h in
-        let adds : gain u change ≡ gain t change = gain_stays t u change filesets same in
-        let more : gains t (made ++ change ∷ left) ≡ gains t made + (gain t change + gains t left) = gains-append t made (change ∷ left) in
-        let fewer : losses t (made ++ change ∷ left) ≡ losses t made + (loss t change + losses t left) = losses-append t made (change ∷ left) in
-        omega arith
+-- and the others have room then
+pub room_after : (t u : Table) (item : Change) (items : List Change) → deletions_first (item ∷ items) ≡ true → gains t (item ∷ items) - losses t (item ∷ items) ≤ spare_count t
+    → record_count t ≤ t.records → record_count u ≤ u.records → u.records ≡ t.records → record_count u + loss t item ≡ record_count t + gain t item
+    → gains u items ≡ gains t items → losses u items ≡ losses t items → gains u items - losses u items ≤ spare_count u
+room_after t u item items first room fits fits_after limit counted same_gains same_losses =
+    elim (is_deletion item) as (λ b. is_deletion item ≡ b → gains u items - losses u items ≤ spare_count u) [
+      | true ↦ λ is. let less : gain t item - loss t item ≡ 0 = deletion_grows t item is in omega (arith, room, fits, fits_after, limit, counted, same_gains, same_losses, less)
+      | false ↦ λ is.
+          let left : not (list_any is_deletion items) ≡ true = sym (ap (λ b. b || not (list_any is_deletion items)) is) ∙ and_left (is_deletion item || not (list_any is_deletion items)) (deletions_first items) first in
+          let none = no_losses t items (not_true (list_any is_deletion items) left) in
+          let here = no_loss t item is in
+          omega (arith, room, fits, fits_after, limit, counted, same_gains, same_losses, none, here)
+    ] refl

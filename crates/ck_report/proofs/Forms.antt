@@ -19,7 +19,8 @@ use Rattle.ck_model.specs.World.{World, Checkpoint, keeps_files, is_named, has_i
 use Rattle.ck_model.specs.Walk.{walk, node_at, file_at, directory_at, name_at, new_name_at}
 use Rattle.ck_model.specs.Space.{fits, blocks_fit, held, records_in, no_space, given_up, without_picks, new_block_count}
 use Rattle.ck_model.specs.Streams.{Texts}
-use Rattle.ck_model.specs.Changing.{is_spent, has_names, file_limit, made, removed, removed_directory, moved, overwritten, truncated}
+use Rattle.ck_model.specs.Changing.{is_spent, has_names, made, removed, removed_directory, moved, overwritten, truncated}
+use Rattle.ck_model.specs.Limits.{file_limit}
 use Rattle.ck_model.specs.Freezing.{frozen_world, new_id, checkpoint_named, older_than, any_keeps, dropped, with_flag, restored, mounted, mounted_id, dismounted, standing, mounted_checkpoint, with_data}
 use Rattle.ck_model.specs.Reporting.{range_read, names_listed, stat_reply, status_of, checkpoint_read, checkpoint_names, full_stream, changed_stream}
 use Rattle.ck_model.specs.Step.{Outcome, outcome_of, answered, done, with_room, changing, created, converted, step}

@@ -2,5 +2,5 @@ pub mod CallLemmas
 pub mod ListingLemmas
 pub mod Splitting
 pub mod Forms
-pub mod Replies
+pub mod ReplyLemmas
 pub mod Telling

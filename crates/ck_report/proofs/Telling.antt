@@ -16,7 +16,7 @@ use Rattle.ck_report.specs.Transcript.{entry_head, answer_text, entry_line, entr
 use Rattle.ck_report.specs.Printed.{IsProperEntry, IsProperIn, AreProper, TextsTell, printed, printed_entry}
 use Rattle.ck_report.proofs.Splitting.{Ends, IsDigit, number_first}
 use Rattle.ck_report.proofs.Forms.{lists, asks_checkpoints, Answers, plain-answers, step-answers}
-use Rattle.ck_report.proofs.Replies.{no_digit_32, no_digit_46, number_before, replies_tell}
+use Rattle.ck_report.proofs.ReplyLemmas.{no_digit_32, no_digit_46, number_before, replies_tell}
 
 -- a legal entry answers a call, and lists nothing that the call doesn't ask for
 

@@ -3,7 +3,7 @@ ghost use Rattle.ck_report.specs.Listing.{listing_line, IsDate, IsListing};
 
 use crate::date::date;
 use crate::put::{put, put_word};
-use crate::words::{keep_text, state_text};
+use crate::replies::{keep_text, state_text};
 use ck_model::{CkptLine, NoMemory};
 use ck_text::put_decimal;
 use std::alloc::Global;

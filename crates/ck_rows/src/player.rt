@@ -1,15 +1,12 @@
 use crate::calls::{call_of, length, number};
 use crate::stop::Stop;
-use ck_model::Limits;
+use ck_model::{CHECKPOINT_LIMIT, Limits};
 use ck_plain::{Answer, Plain, is_plain_call};
 use ck_report::put_reply;
 use std::alloc::{AllocError, Global};
 
 /// The moment of every call, until a line sets another.
 const MOMENT: u64 = 100;
-
-/// How many checkpoints may stand.
-const CHECKPOINTS: u32 = 64;
 
 /// More records than a volume has.
 const TOO_MANY: u32 = 1 << 31;
@@ -37,7 +34,7 @@ fn world_of(alloc: Global, blocks: &str, records: &str, id: &str) -> Result<Plai
             let limits = Limits {
                 blocks,
                 records,
-                checkpoints: CHECKPOINTS,
+                checkpoints: CHECKPOINT_LIMIT,
             };
             let mut plain = Plain::new(alloc, limits)?;
             plain.next.id = id;

@@ -4,13 +4,15 @@ use Rattle.std.proofs.Common.{◌≡◌, ℕ, ◌≤◌, ◌&&◌, Bool, true, f
 use Rattle.std.specs.Bool.{Decides}
 use Rattle.std.specs.Option.{option_map, option_and_then}
 use Rattle.std.proofs.lemmas.Bool.Decides.{Decides-eqb}
-use Rattle.ck_model.specs.Changing.{file_limit}
-use Rattle.ck_model.specs.Name.{IsName, IsCheckpointName}
 use Rattle.ck_model.specs.declared.call.Call.{Call}
-use Rattle.ck_model.specs.declared.call.Call.TheVariants.{Make, Mkdir, Rm, Rmdir, Mv, Write, Fill, Trunc, Read, List as Ls, Stat, Create, Remove, Nodata, Removable, Ckpts, Mount, Umount, Cread, Clist, Restore, Backup, Full, Info, Sync}
+use Rattle.ck_model.specs.declared.call.Call.TheVariants as call
 use Rattle.ck_script.specs.declared.form.Form.{Form}
 use Rattle.ck_script.specs.declared.form.Form.TheVariants.{Called, Turned}
-use Rattle.ck_script.specs.Grammar.{is_text, is_name, checkpoint_name, path_of, actor_of, place_of, fill_length, read_length, bytes_of, byte_of, letter_of, switch_of, path_alone, name_alone, letter_alone, alone, mv_of, write_of, fill_of, trunc_of, read_of, create_of, nodata_of, removable_of, mount_of, cread_of, cls_of, backup_of, change_of, naming_of, mounted_of, look_of, either_of, call_of, turns_of, form_of}
+use Rattle.ck_script.specs.declared.verb.Verb.{Verb}
+use Rattle.ck_script.specs.declared.verb.Verb.TheVariants.{Make, Mkdir, Rm, Rmdir, Mv, Write, Fill, Trunc, Read, Ls, Stat, Create, Remove, Nodata, Removable, Ckpts, Mount, Umount, Cread, Cls, Restore, Backup, Full, Info, Sync}
+use Rattle.ck_script.specs.Arguments.{is_text, is_name, checkpoint_name, path_of, actor_of, place_of, fill_length, read_length, bytes_of, byte_of, letter_of, switch_of}
+use Rattle.ck_script.specs.Verb.{verb_of}
+use Rattle.ck_script.specs.Grammar.{path_alone, name_alone, letter_alone, alone, mv_of, write_of, fill_of, trunc_of, read_of, create_of, nodata_of, removable_of, mount_of, cread_of, cls_of, backup_of, call_with, call_of, turns_of, form_of}
 use Rattle.ck_script.specs.Names.{HasValidName}
 use Rattle.ck_script.specs.Places.{HasPlaces}
 use Rattle.ck_script.proofs.FormLemmas.{up_to}
@@ -49,12 +51,6 @@ module _ {Y : Type 0} (P : Y → Type 0) where
     | Some place ↦ λ e. each place (up_to file_limit place word e)
   ] refl
 
-  sized : (f : ℕ → Y) (word : List ℕ) → ((size : ℕ) → size ≤ file_limit → P (f size)) → IfSome (option_map f (place_of word)) P
-  sized f word each = elim (place_of word) as (λ o. place_of word ≡ o → IfSome (option_map f o) P) [
-    | None ↦ λ e. tt
-    | Some size ↦ λ e. each size (up_to file_limit size word e)
-  ] refl
-
 -- the call's name and places are such as the grammar reads
 abbrev pub IsKept : Call → Type 0
 IsKept call = HasValidName call × HasPlaces call
@@ -63,11 +59,14 @@ IsKept call = HasValidName call × HasPlaces call
 abbrev IfKept : Option Call → Type 0
 IfKept o = IfSome o IsKept
 
-named : (f : List ℕ → Call) (word : List ℕ) → ((name : List ℕ) → IsCheckpointName name → IsKept (f name)) → IfKept (option_map f (checkpoint_name word))
-named f word each = elim (checkpoint_name word) as (λ o. checkpoint_name word ≡ o → IfKept (option_map f o)) [
-  | None ↦ λ e. tt
+named_by : (P : Option (List ℕ) → Type 0) (word : List ℕ) → P None → ((name : List ℕ) → IsCheckpointName name → P (Some name)) → P (checkpoint_name word)
+named_by P word none each = elim (checkpoint_name word) as (λ o. checkpoint_name word ≡ o → P o) [
+  | None ↦ λ e. none
   | Some name ↦ λ e. each name (checkpoint_name_is word name e)
 ] refl
+
+named : (f : List ℕ → Call) (word : List ℕ) → ((name : List ℕ) → IsCheckpointName name → IsKept (f name)) → IfKept (option_map f (checkpoint_name word))
+named f word each = named_by (λ o. IfKept (option_map f o)) word tt each
 
 name_alone-kept : (f : List ℕ → Call) (words : List (List ℕ)) → ((name : List ℕ) → IsCheckpointName name → IsKept (f name)) → IfKept (option_map f (name_alone words))
 name_alone-kept f [] each = tt
@@ -81,7 +80,8 @@ alone-kept call (word ∷ words) is = tt
 mv-kept : (words : List (List ℕ)) → IfKept (mv_of words)
 mv-kept [] = tt
 mv-kept (a ∷ []) = tt
-mv-kept (path ∷ new_path ∷ []) = followed IsKept _ (path_of path) (λ path. mapped IsKept (Mv path) (path_of new_path) (λ new_path. (tt, tt)))
+mv-kept (path ∷ new_path ∷ []) =
+    followed IsKept _ (path_of path) (λ path. followed IsKept _ (path_of new_path) (λ new_path. (tt, tt)))
 mv-kept (a ∷ b ∷ c ∷ words) = tt
 
 write-kept : (words : List (List ℕ)) → IfKept (write_of words)
@@ -89,7 +89,7 @@ write-kept [] = tt
 write-kept (a ∷ []) = tt
 write-kept (a ∷ b ∷ []) = tt
 write-kept (path ∷ at ∷ bytes ∷ []) =
-    followed IsKept _ (path_of path) (λ path. placed IsKept _ at (λ at within. mapped IsKept (Write path at) (bytes_of bytes) (λ bytes. (tt, within))))
+    placed IsKept _ at (λ at within. followed IsKept _ (path_of path) (λ path. followed IsKept _ (bytes_of bytes) (λ bytes. (tt, within))))
 write-kept (a ∷ b ∷ c ∷ d ∷ words) = tt
 
 fill-kept : (words : List (List ℕ)) → IfKept (fill_of words)
@@ -98,14 +98,15 @@ fill-kept (a ∷ []) = tt
 fill-kept (a ∷ b ∷ []) = tt
 fill-kept (a ∷ b ∷ c ∷ []) = tt
 fill-kept (path ∷ at ∷ len ∷ byte ∷ []) =
-    followed IsKept _ (path_of path) (λ path. placed IsKept _ at (λ at within.
-    followed IsKept _ (fill_length len) (λ len. mapped IsKept (Fill path at len) (byte_of byte) (λ byte. (tt, within)))))
+    placed IsKept _ at (λ at within. followed IsKept _ (fill_length len) (λ len.
+    followed IsKept _ (byte_of byte) (λ byte. followed IsKept _ (path_of path) (λ path. (tt, within)))))
 fill-kept (a ∷ b ∷ c ∷ d ∷ e ∷ words) = tt
 
 trunc-kept : (words : List (List ℕ)) → IfKept (trunc_of words)
 trunc-kept [] = tt
 trunc-kept (a ∷ []) = tt
-trunc-kept (path ∷ size ∷ []) = followed IsKept _ (path_of path) (λ path. sized IsKept (Trunc path) size (λ size within. (tt, within)))
+trunc-kept (path ∷ size ∷ []) =
+    placed IsKept _ size (λ size within. followed IsKept _ (path_of path) (λ path. (tt, within)))
 trunc-kept (a ∷ b ∷ c ∷ words) = tt
 
 read-kept : (words : List (List ℕ)) → IfKept (read_of words)
@@ -113,39 +114,38 @@ read-kept [] = tt
 read-kept (a ∷ []) = tt
 read-kept (a ∷ b ∷ []) = tt
 read-kept (path ∷ at ∷ len ∷ []) =
-    followed IsKept _ (path_of path) (λ path. placed IsKept _ at (λ at within. mapped IsKept (Read path at) (read_length len) (λ len. (tt, within))))
+    placed IsKept _ at (λ at within. followed IsKept _ (read_length len) (λ len. followed IsKept _ (path_of path) (λ path. (tt, within))))
 read-kept (a ∷ b ∷ c ∷ d ∷ words) = tt
 
 create-kept : (words : List (List ℕ)) → IfKept (create_of words)
 create-kept [] = tt
-create-kept (name ∷ []) = named (λ name. Create name false false) name (λ name is. (is, tt))
+create-kept (name ∷ []) = named (λ name. call.Create name false false) name (λ name is. (is, tt))
 create-kept (flag ∷ name ∷ []) =
-    chosen IsKept (is_text flag (codes "-n")) _ _ (named (λ name. Create name true false) name (λ name is. (is, tt)))
-    (chosen IsKept (is_text flag (codes "-r")) _ _ (named (λ name. Create name false true) name (λ name is. (is, tt))) tt)
+    chosen IsKept (is_text flag (codes "-n")) _ _ (named (λ name. call.Create name true false) name (λ name is. (is, tt)))
+    (chosen IsKept (is_text flag (codes "-r")) _ _ (named (λ name. call.Create name false true) name (λ name is. (is, tt))) tt)
 create-kept (nodata ∷ removable ∷ name ∷ []) =
-    chosen IsKept (is_text nodata (codes "-n") && is_text removable (codes "-r")) _ _ (named (λ name. Create name true true) name (λ name is. (is, tt))) tt
+    chosen IsKept (is_text nodata (codes "-n") && is_text removable (codes "-r")) _ _ (named (λ name. call.Create name true true) name (λ name is. (is, tt))) tt
 create-kept (a ∷ b ∷ c ∷ d ∷ words) = tt
 
 nodata-kept : (words : List (List ℕ)) → IfKept (nodata_of words)
 nodata-kept [] = tt
-nodata-kept (name ∷ []) = named (λ name. Nodata name false) name (λ name is. (is, tt))
-nodata-kept (flag ∷ name ∷ []) = chosen IsKept (is_text flag (codes "-s")) _ _ (named (λ name. Nodata name true) name (λ name is. (is, tt))) tt
+nodata-kept (name ∷ []) = named (λ name. call.Nodata name false) name (λ name is. (is, tt))
+nodata-kept (flag ∷ name ∷ []) = chosen IsKept (is_text flag (codes "-s")) _ _ (named (λ name. call.Nodata name true) name (λ name is. (is, tt))) tt
 nodata-kept (a ∷ b ∷ c ∷ words) = tt
 
 removable-kept : (words : List (List ℕ)) → IfKept (removable_of words)
 removable-kept [] = tt
 removable-kept (a ∷ []) = tt
 removable-kept (word ∷ switch ∷ []) =
-    elim (checkpoint_name word) as (λ o. checkpoint_name word ≡ o → IfKept (option_and_then (λ name. option_map (λ on. Removable name on) (switch_of switch)) o)) [
-      | None ↦ λ e. tt
-      | Some name ↦ λ e. mapped IsKept (Removable name) (switch_of switch) (λ on. (checkpoint_name_is word name e, tt))
-    ] refl
+    named_by (λ o. IfKept (option_and_then (λ name. option_and_then (λ on. Some (call.Removable name on)) (switch_of switch)) o)) word tt
+    (λ name is. followed IsKept _ (switch_of switch) (λ on. (is, tt)))
 removable-kept (a ∷ b ∷ c ∷ words) = tt
 
 mount-kept : (words : List (List ℕ)) → IfKept (mount_of words)
 mount-kept [] = tt
 mount-kept (a ∷ []) = tt
-mount-kept (letter ∷ name ∷ []) = followed IsKept _ (letter_of letter) (λ letter. named (Mount letter) name (λ name is. (is, tt)))
+mount-kept (letter ∷ name ∷ []) =
+    followed IsKept _ (letter_of letter) (λ letter. named_by (λ o. IfKept (option_and_then (λ name. Some (call.Mount letter name)) o)) name tt (λ name is. (is, tt)))
 mount-kept (a ∷ b ∷ c ∷ words) = tt
 
 cread-kept : (words : List (List ℕ)) → IfKept (cread_of words)
@@ -154,68 +154,54 @@ cread-kept (a ∷ []) = tt
 cread-kept (a ∷ b ∷ []) = tt
 cread-kept (a ∷ b ∷ c ∷ []) = tt
 cread-kept (letter ∷ path ∷ at ∷ len ∷ []) =
-    followed IsKept _ (letter_of letter) (λ letter. followed IsKept _ (path_of path) (λ path.
-    placed IsKept _ at (λ at within. mapped IsKept (Cread letter path at) (read_length len) (λ len. (tt, within)))))
+    followed IsKept _ (letter_of letter) (λ letter. placed IsKept _ at (λ at within.
+    followed IsKept _ (read_length len) (λ len. followed IsKept _ (path_of path) (λ path. (tt, within)))))
 cread-kept (a ∷ b ∷ c ∷ d ∷ e ∷ words) = tt
 
 cls-kept : (words : List (List ℕ)) → IfKept (cls_of words)
 cls-kept [] = tt
 cls-kept (a ∷ []) = tt
-cls-kept (letter ∷ path ∷ []) = followed IsKept _ (letter_of letter) (λ letter. mapped IsKept (Clist letter) (path_of path) (λ path. (tt, tt)))
+cls-kept (letter ∷ path ∷ []) =
+    followed IsKept _ (letter_of letter) (λ letter. followed IsKept _ (path_of path) (λ path. (tt, tt)))
 cls-kept (a ∷ b ∷ c ∷ words) = tt
 
 backup-kept : (words : List (List ℕ)) → IfKept (backup_of words)
 backup-kept [] = tt
 backup-kept (a ∷ []) = tt
-backup-kept (letter ∷ later ∷ []) = followed IsKept _ (letter_of letter) (λ letter. mapped IsKept (Backup letter) (letter_of later) (λ later. (tt, tt)))
+backup-kept (letter ∷ later ∷ []) =
+    followed IsKept _ (letter_of letter) (λ letter. followed IsKept _ (letter_of later) (λ later. (tt, tt)))
 backup-kept (a ∷ b ∷ c ∷ words) = tt
 
-change-kept : (verb : List ℕ) (words : List (List ℕ)) → IfKept (change_of verb words)
-change-kept verb words =
-    chosen IsKept (is_text verb (codes "make")) _ _ (mapped IsKept Make (path_alone words) (λ path. (tt, tt)))
-    (chosen IsKept (is_text verb (codes "mkdir")) _ _ (mapped IsKept Mkdir (path_alone words) (λ path. (tt, tt)))
-    (chosen IsKept (is_text verb (codes "rm")) _ _ (mapped IsKept Rm (path_alone words) (λ path. (tt, tt)))
-    (chosen IsKept (is_text verb (codes "rmdir")) _ _ (mapped IsKept Rmdir (path_alone words) (λ path. (tt, tt)))
-    (chosen IsKept (is_text verb (codes "mv")) _ _ (mv-kept words)
-    (chosen IsKept (is_text verb (codes "write")) _ _ (write-kept words)
-    (chosen IsKept (is_text verb (codes "fill")) _ _ (fill-kept words)
-    (chosen IsKept (is_text verb (codes "trunc")) _ _ (trunc-kept words) tt)))))))
-
-look-kept : (verb : List ℕ) (words : List (List ℕ)) → IfKept (look_of verb words)
-look-kept verb words =
-    chosen IsKept (is_text verb (codes "read")) _ _ (read-kept words)
-    (chosen IsKept (is_text verb (codes "ls")) _ _ (mapped IsKept Ls (path_alone words) (λ path. (tt, tt)))
-    (chosen IsKept (is_text verb (codes "stat")) _ _ (mapped IsKept Stat (path_alone words) (λ path. (tt, tt)))
-    (chosen IsKept (is_text verb (codes "ckpts")) _ _ (alone-kept Ckpts words (tt, tt))
-    (chosen IsKept (is_text verb (codes "info")) _ _ (alone-kept Info words (tt, tt))
-    (chosen IsKept (is_text verb (codes "sync")) _ _ (alone-kept Sync words (tt, tt)) tt)))))
-
-naming-kept : (verb : List ℕ) (words : List (List ℕ)) → IfKept (naming_of verb words)
-naming-kept verb words =
-    chosen IsKept (is_text verb (codes "create")) _ _ (create-kept words)
-    (chosen IsKept (is_text verb (codes "remove")) _ _ (name_alone-kept Remove words (λ name is. (is, tt)))
-    (chosen IsKept (is_text verb (codes "nodata")) _ _ (nodata-kept words)
-    (chosen IsKept (is_text verb (codes "removable")) _ _ (removable-kept words)
-    (chosen IsKept (is_text verb (codes "restore")) _ _ (name_alone-kept Restore words (λ name is. (is, tt)))
-    (chosen IsKept (is_text verb (codes "mount")) _ _ (mount-kept words) tt)))))
-
-mounted-kept : (verb : List ℕ) (words : List (List ℕ)) → IfKept (mounted_of verb words)
-mounted-kept verb words =
-    chosen IsKept (is_text verb (codes "umount")) _ _ (mapped IsKept Umount (letter_alone words) (λ letter. (tt, tt)))
-    (chosen IsKept (is_text verb (codes "cread")) _ _ (cread-kept words)
-    (chosen IsKept (is_text verb (codes "cls")) _ _ (cls-kept words)
-    (chosen IsKept (is_text verb (codes "backup")) _ _ (backup-kept words)
-    (chosen IsKept (is_text verb (codes "full")) _ _ (mapped IsKept Full (letter_alone words) (λ letter. (tt, tt))) tt))))
-
-either-kept : (one other : Option Call) → IfKept one → IfKept other → IfKept (either_of one other)
-either-kept None other first second = second
-either-kept (Some call) other first second = first
+call_with-kept : (verb : Verb) (words : List (List ℕ)) → IfKept (call_with verb words)
+call_with-kept Make words = mapped IsKept call.Make (path_alone words) (λ path. (tt, tt))
+call_with-kept Mkdir words = mapped IsKept call.Mkdir (path_alone words) (λ path. (tt, tt))
+call_with-kept Rm words = mapped IsKept call.Rm (path_alone words) (λ path. (tt, tt))
+call_with-kept Rmdir words = mapped IsKept call.Rmdir (path_alone words) (λ path. (tt, tt))
+call_with-kept Mv words = mv-kept words
+call_with-kept Write words = write-kept words
+call_with-kept Fill words = fill-kept words
+call_with-kept Trunc words = trunc-kept words
+call_with-kept Read words = read-kept words
+call_with-kept Ls words = mapped IsKept call.List (path_alone words) (λ path. (tt, tt))
+call_with-kept Stat words = mapped IsKept call.Stat (path_alone words) (λ path. (tt, tt))
+call_with-kept Create words = create-kept words
+call_with-kept Remove words = name_alone-kept call.Remove words (λ name is. (is, tt))
+call_with-kept Nodata words = nodata-kept words
+call_with-kept Removable words = removable-kept words
+call_with-kept Ckpts words = alone-kept call.Ckpts words (tt, tt)
+call_with-kept Mount words = mount-kept words
+call_with-kept Umount words = mapped IsKept call.Umount (letter_alone words) (λ letter. (tt, tt))
+call_with-kept Cread words = cread-kept words
+call_with-kept Cls words = cls-kept words
+call_with-kept Restore words = name_alone-kept call.Restore words (λ name is. (is, tt))
+call_with-kept Backup words = backup-kept words
+call_with-kept Full words = mapped IsKept call.Full (letter_alone words) (λ letter. (tt, tt))
+call_with-kept Info words = alone-kept call.Info words (tt, tt)
+call_with-kept Sync words = alone-kept call.Sync words (tt, tt)
 
 call-kept : (words : List (List ℕ)) → IfKept (call_of words)
 call-kept [] = tt
-call-kept (verb ∷ words) =
-    either-kept (change_of verb words) _ (change-kept verb words)
-    (either-kept (look_of verb words) _ (look-kept verb words) (either-kept (naming_of verb words) _ (naming-kept verb words) (mounted-kept verb words)))
+call-kept (verb ∷ words) = followed IsKept _ (verb_of verb) (λ verb. call_with-kept verb words)
 
 -- so is a line's call
 abbrev pub HasKeptCall : Form → Type 0

@@ -1,14 +1,14 @@
 -- What lines stand for.
-use Rattle.std.proofs.Common.{◌≡◌, ℕ, ◌≤◌, ◌++◌, Bool, true, false, cond, List, [], ◌∷◌, Option, Some, None, nat_le, codes, length, map as list_map, ◌≢◌, refl, sym, ap, subst, ◌∙◌, arith, append_assoc}
+use Rattle.std.proofs.Common.{◌≡◌, ℕ, ◌≤◌, Bool, true, false, cond, List, [], ◌∷◌, Option, Some, None, nat_le, codes, length, map as list_map, ◌≢◌, refl, sym, ap, subst, ◌∙◌, arith}
 use Rattle.std.specs.Option.{option_map, option_and_then}
 use Rattle.std.proofs.lemmas.Option.{option_and_then_some}
 use Rattle.std.proofs.lemmas.Bool.Decides.{nat_tests}
 use Rattle.ck_model.specs.declared.call.Call.{Call}
 use Rattle.ck_script.specs.declared.form.Form.{Form}
 use Rattle.ck_script.specs.declared.form.Form.TheVariants.{Called, Turned}
-use Rattle.ck_script.specs.Grammar.{is_text, number_up_to, actor_of, call_of, turns_of, turn_of, form_of, fill_of}
+use Rattle.ck_script.specs.Arguments.{is_text, number_up_to, actor_of}
+use Rattle.ck_script.specs.Grammar.{call_of, turns_of, form_of, fill_of}
 use Rattle.ck_script.specs.Built.{is_built}
-use Rattle.ck_script.specs.Reading.{Parsed, is_skipped, form_in, with_form, with_line}
 use Rattle.ck_script.specs.Steps.{HasActor}
 
 -- a test that gives its number
@@ -44,29 +44,12 @@ form_actor (first ∷ words) form e =
     either (is_text first (codes "turns")) (option_map Turned (turns_of words)) (option_and_then (λ actor. option_map (λ call. Called actor call) (call_of words)) (actor_of first)) form
     (turned (turns_of words) form) (λ e. option_and_then_some _ _ form e (λ actor is rest. called actor (call_of words) form (actor_is actor first is) rest)) e
 
--- a form, where it is built
-abbrev pub built_of : Option Form → Option Form
-built_of o = option_and_then (λ form. cond (is_built form) (Some form) None) o
-
 pub built_found : (o : Option Form) (form : Form) → option_and_then (λ form. cond (is_built form) (Some form) None) o ≡ Some form → (o ≡ Some form) × (is_built form ≡ true)
 built_found o form e = option_and_then_some _ o form e (λ found is rest. step (is_built found) found refl is rest)
   where
     step : (b : Bool) (found : Form) → is_built found ≡ b → o ≡ Some found → cond b (Some found) None ≡ Some form → (o ≡ Some form) × (is_built form ≡ true)
     step true found built is rest = let same : found ≡ form = cc in (is ∙ ap Some same, ap is_built (sym same) ∙ built)
     step false found built is rest = cc
-
--- one word more of turns
-pub turns_on : (turns : List ℕ) (turn : ℕ) (word : List ℕ) (words : List (List ℕ)) → turn_of word ≡ Some turn →
-    option_map (λ rest. turns ++ rest) (turns_of (word ∷ words)) ≡ option_map (λ rest. (turns ++ turn ∷ []) ++ rest) (turns_of words)
-turns_on turns turn word words e = ap (λ o. option_map (λ rest. turns ++ rest) (option_and_then (λ turn. option_map (λ turns. turn ∷ turns) (turns_of words)) o)) e ∙ step (turns_of words)
-  where
-    step : (o : Option (List ℕ)) → option_map (λ rest. turns ++ rest) (option_map (λ turns. turn ∷ turns) o) ≡ option_map (λ rest. (turns ++ turn ∷ []) ++ rest) o
-    step None = refl
-    step (Some rest) = ap Some (sym (append_assoc turns (turn ∷ []) rest))
-
--- a word that is no turn
-pub turns_none : (word : List ℕ) (words : List (List ℕ)) → turn_of word ≡ None → turns_of (word ∷ words) ≡ None
-turns_none word words e = ap (option_and_then (λ turn. option_map (λ turns. turn ∷ turns) (turns_of words))) e
 
 -- a fill has four words
 pub fill_of_few : {X : Type 0} (f : X → List ℕ) (words : List X) → length words ≢ 4 → fill_of (list_map f words) ≡ None
@@ -76,8 +59,3 @@ fill_of_few f (a ∷ b ∷ []) other = refl
 fill_of_few f (a ∷ b ∷ c ∷ []) other = refl
 fill_of_few f (a ∷ b ∷ c ∷ d ∷ []) other = absurd (other refl)
 fill_of_few f (a ∷ b ∷ c ∷ d ∷ e ∷ words) other = refl
-
--- a line that isn't skipped gives what it stands for
-pub with_line-form : (number : ℕ) (read : Parsed) (line : List ℕ) (form : Form) → is_skipped line ≡ false → Some form ≡ form_in line → with_line number read line ≡ with_form number read form
-with_line-form number read line form kept found =
-    ap (λ b. cond b (Some read) (option_and_then (with_form number read) (form_in line))) kept ∙ ap (option_and_then (with_form number read)) (sym found)

@@ -6,4 +6,4 @@ pub mod KeepsLemmas
 pub mod TallyLemmas
 pub mod LinesLemmas
 pub mod ReadingLemmas
-pub mod GeneratorLemmas
+pub mod ScriptLaws

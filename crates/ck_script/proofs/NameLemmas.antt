@@ -5,7 +5,7 @@ use Rattle.std.specs.List.{list_all}
 use Rattle.std.proofs.lemmas.Bool.Decides.{nat_tests, Decides-and, Decides-not, Decides-like, Decides-eqb, Decides-by_and}
 use Rattle.std.proofs.lemmas.Slice.Eq.{bytes_eq-Decides}
 use Rattle.ck_model.specs.Name.{IsName, IsNameByte, IsFileName}
-use Rattle.ck_script.specs.Grammar.{is_name, is_file_name, is_printable}
+use Rattle.ck_script.specs.Arguments.{is_name, is_file_name, is_printable}
 
 pub Decides-nat_le : (a b : ℕ) → Decides (nat_le a b) (a ≤ b)
 Decides-nat_le a b = (λ e. grind (arith, nat_tests, e), λ h. grind (arith, nat_tests, h))

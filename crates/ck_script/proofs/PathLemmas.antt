@@ -1,5 +1,5 @@
 -- A path is read from a word exactly where the word is its text.
-use Rattle.std.proofs.Common.{◌≡◌, ◌≢◌, ℕ, ◌≤◌, ◌&&◌, Bool, true, false, cond, List, [], ◌∷◌, ◌++◌, length, drop, Option, Some, None, IfSome, IfNone, IfOk, Result, Ok, Err, All, nat_le, codes, refl, sym, ap, subst, ◌∙◌, lit≤, arith}
+use Rattle.std.proofs.Common.{◌≡◌, ◌≢◌, ℕ, ◌≤◌, ◌&&◌, Bool, true, false, cond, List, [], ◌∷◌, ◌++◌, length, drop, Option, Some, None, IfSome, IfNone, All, nat_le, codes, refl, sym, ap, subst, ◌∙◌, lit≤, arith}
 use Rattle.std.proofs.lemmas.List.{append-nil}
 use Rattle.std.specs.Prelude.{slice_index}
 use Rattle.std.specs.Bool.{Decides}
@@ -10,7 +10,7 @@ use Rattle.std.proofs.lemmas.List.Elements.{All-head, All-tail, All-weaker}
 use Rattle.std.proofs.lemmas.List.Splits.{slice_split-cons_yes, slice_split-cons_no, slice_split_none, slice_split_at}
 use Rattle.ck_model.specs.Name.{IsNameByte, IsFileName}
 use Rattle.ck_model.specs.Path.{IsPath, joined, path_text}
-use Rattle.ck_script.specs.Grammar.{is_text, is_slash, is_file_name, names_of, path_of}
+use Rattle.ck_script.specs.Arguments.{is_text, is_slash, is_file_name, names_of, path_of}
 use Rattle.ck_script.proofs.NameLemmas.{Decides-file_name, Decides-nat_le}
 
 -- the names between the slashes of a text
@@ -118,8 +118,3 @@ path_read word None text is none = elim (path_of word) as (λ o. path_of word �
   | None ↦ λ e. refl
   | Some names ↦ λ e. let found = path_found word names e in absurd (none names found.1 found.0)
 ] refl
-
-pub path_read_ok : {E : Type 0} (word : List ℕ) (found : Result (Option (List (List ℕ))) E) → IfOk found (λ found. IfSome found (λ path. path_text path ≡ word)) → IfOk found (λ found. IfSome found IsPath) →
-    IfOk found (λ found. IfNone found ((names : List (List ℕ)) → IsPath names → path_text names ≢ word)) → IfOk found (λ path. path ≡ path_of word)
-path_read_ok word (Ok found) text is none = path_read word found text is none
-path_read_ok word (Err error) text is none = tt

@@ -5,9 +5,9 @@ use Rattle.std.specs.Option.{option_map_or}
 use Rattle.std.specs.Str.Lines.{lines}
 use Rattle.std.proofs.lemmas.Bool.Decides.{nat_tests}
 use Rattle.std.proofs.lemmas.List.{take-take, take_all, drop_all}
+use Rattle.ck_model.specs.Limits.{script_limit}
 use Rattle.ck_script.specs.declared.fault.ParseFault.{ParseFault}
 use Rattle.ck_script.specs.declared.fault.ParseFault.TheVariants.{BadLine, NoMemory}
-use Rattle.ck_script.specs.Limits.{script_limit}
 use Rattle.ck_script.specs.Reading.{Parsed, nothing_read, read_lines, read_script, long_line, with_line}
 use Rattle.ck_script.specs.Steps.{IsFaultOf, IsRefusal, line_at}
 use Rattle.ck_script.proofs.LinesLemmas.{is_feed, next_line}
@@ -83,12 +83,8 @@ long_at-take limit text =
           ap (long_at limit) (take_all (limit + 1) text (omega (arith, ge)))
     ] refl
 
-read_at-take : (limit : ℕ) (text : List ℕ) → read_lines (long_at limit (take (limit + 1) text)) 1 nothing_read (lines (take limit (take (limit + 1) text))) ≡ read_lines (long_at limit text) 1 nothing_read (lines (take limit text))
+pub read_at-take : (limit : ℕ) (text : List ℕ) → read_lines (long_at limit (take (limit + 1) text)) 1 nothing_read (lines (take limit (take (limit + 1) text))) ≡ read_lines (long_at limit text) 1 nothing_read (lines (take limit text))
 read_at-take limit text = λ i. read_lines (long_at-take limit text i) 1 nothing_read (lines (take-take limit (limit + 1) text (omega arith) i))
-
--- no byte but the first one behind the limit is looked at
-pub read_script-take : (text : List ℕ) → read_script (take (script_limit + 1) text) ≡ read_script text
-read_script-take text = read_at-take script_limit text
 
 -- a script, by its bytes up to the limit and the number of a line that is too long
 pub read_script-is : (bytes text : List ℕ) (long : Option ℕ) → long ≡ long_line bytes → text ≡ take script_limit bytes → read_script bytes ≡ read_lines long 1 nothing_read (lines text)

@@ -1,4 +1,7 @@
 pub mod Numbered
+pub mod Refusal
+pub mod Arguments
+pub mod Verb
 pub mod Grammar
 pub mod Built
 pub mod Limits
@@ -6,4 +9,3 @@ pub mod Names
 pub mod Places
 pub mod Reading
 pub mod Steps
-pub mod Generator

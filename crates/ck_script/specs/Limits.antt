@@ -5,10 +5,6 @@ use Rattle.ck_model.specs.declared.call.Call.{Call}
 use Rattle.ck_model.specs.declared.call.Call.TheVariants.{Read, Cread, Backup, Full}
 use Rattle.ck_script.specs.declared.line.Line.{Line}
 
--- how many bytes a script has at the most
-abbrev pub script_limit : ℕ
-script_limit = 16777216
-
 -- how many calls it has at the most
 abbrev pub call_limit : ℕ
 call_limit = 65536

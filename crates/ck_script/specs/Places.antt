@@ -1,9 +1,9 @@
 -- The places and sizes in a script.
 use Rattle.std.specs.Prelude.{◌≤◌, List, ⊤}
 use Rattle.std.specs.List.{AllByRecursion}
-use Rattle.ck_model.specs.Changing.{file_limit}
 use Rattle.ck_model.specs.declared.call.Call.{Call}
 use Rattle.ck_model.specs.declared.call.Call.TheVariants.{Write, Fill, Trunc, Read, Cread}
+use Rattle.ck_model.specs.Limits.{file_limit}
 use Rattle.ck_script.specs.declared.line.Line.{Line}
 
 -- the place or size that the call names, if it names one, is within the limit of a file's size

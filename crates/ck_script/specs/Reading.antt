@@ -3,13 +3,14 @@ use Rattle.std.specs.Prelude.{ℕ, ◌+◌, ◌||◌, Bool, false, List, [], ◌
 use Rattle.std.specs.Option.{option_map_or, option_and_then}
 use Rattle.std.specs.Str.Lines.{lines}
 use Rattle.ck_model.specs.declared.call.Call.{Call}
+use Rattle.ck_model.specs.Limits.{script_limit}
 use Rattle.ck_text.specs.Words.{words_of}
 use Rattle.ck_script.specs.declared.form.Form.{Form}
 use Rattle.ck_script.specs.declared.form.Form.TheVariants.{Called, Turned}
 use Rattle.ck_script.specs.declared.line.Line.{Line}
 use Rattle.ck_script.specs.Grammar.{form_of}
 use Rattle.ck_script.specs.Built.{is_built}
-use Rattle.ck_script.specs.Limits.{are_within_limits, script_limit}
+use Rattle.ck_script.specs.Limits.{are_within_limits}
 use Rattle.ck_script.specs.Numbered.{numbers_in}
 
 -- what is read of a script: the lines of its calls, and its turns
@@ -24,9 +25,13 @@ nothing_read = record { calls = []; turns = [] }
 abbrev pub is_skipped : List ℕ → Bool
 is_skipped line = nat_eq (length (words_of line)) 0 || nat_eq (slice_index line 0) 35
 
--- what a line stands for, where it is built
+-- what words stand for, where it is built
+abbrev pub built_form : List (List ℕ) → Option Form
+built_form words = option_and_then (λ form. if is_built form then Some form else None) (form_of words)
+
+-- and what a line stands for
 abbrev pub form_in : List ℕ → Option Form
-form_in line = option_and_then (λ form. if is_built form then Some form else None) (form_of (words_of line))
+form_in line = built_form (words_of line)
 
 -- a call gets the next number of its actor
 abbrev pub line_of : List Line → ℕ → ℕ → Call → Line

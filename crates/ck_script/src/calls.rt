@@ -1,20 +1,23 @@
-ghost use Rattle.std.specs.Prelude.{◌≡◌, ◌∷◌, IfOk, map as list_map};
-ghost use Rattle.ck_script.specs.Grammar.{path_alone as lone_path, name_alone as lone_name, letter_alone as lone_letter, change_of as change_in, look_of as look_in, naming_of as naming_in, mounted_of as mounted_in, call_of as call_in};
+ghost use Rattle.std.specs.Prelude.{◌≡◌, ◌∷◌, map as list_map};
+ghost use Rattle.ck_script.specs.Grammar.{path_alone as lone_path, name_alone as lone_name, letter_alone as lone_letter, alone as lone_call, call_with as call_by, call_of as call_in};
+ghost use Rattle.ck_script.specs.Refusal.{Answers};
 
+use crate::Refusal;
+use crate::arguments::{checkpoint_name, letter_of, path_of};
 use crate::checkpoints::{
     backup_of, cls_of, cread_of, create_of, mount_of, nodata_of, removable_of,
 };
 use crate::files::{fill_of, mv_of, read_of, trunc_of, write_of};
-use crate::parts::{checkpoint_name, is_text, letter_of, path_of};
-use ck_model::{Call, NameBytes, NoMemory, Path};
+use crate::verb::Verb;
+use ck_model::{Call, NameBytes, Path};
 use std::alloc::Global;
 
-fn path_alone(alloc: Global, words: &[&[u8]]) -> Result<Option<Path>, NoMemory>
-    ensures { IfOk result (λ path. path ≡ lone_path (list_map (λ word. word.now) words.now)) }
+fn path_alone(alloc: Global, words: &[&[u8]]) -> Result<Path, Refusal>
+    ensures { Answers (lone_path (list_map (λ word. word.now) words.now)) result }
 {
     match words {
         [path] => path_of(alloc, path),
-        _ => Ok(None),
+        _ => Err(Refusal::NotThis),
     }
 }
 
@@ -36,109 +39,59 @@ fn letter_alone(words: &[&[u8]]) -> Option<u8>
     }
 }
 
-fn change_of(alloc: Global, verb: &[u8], words: &[&[u8]]) -> Result<Option<Call>, NoMemory>
-    ensures { IfOk result (λ call. call ≡ change_in verb.now (list_map (λ word. word.now) words.now)) }
+fn alone(call: Call, words: &[&[u8]]) -> Option<Call>
+    ensures { result ≡ lone_call call (list_map (λ word. word.now) words.now) }
 {
-    if is_text(verb, b"make") {
-        Ok(path_alone(alloc, words)?.map(Call::Make))
-    } else if is_text(verb, b"mkdir") {
-        Ok(path_alone(alloc, words)?.map(Call::Mkdir))
-    } else if is_text(verb, b"rm") {
-        Ok(path_alone(alloc, words)?.map(Call::Rm))
-    } else if is_text(verb, b"rmdir") {
-        Ok(path_alone(alloc, words)?.map(Call::Rmdir))
-    } else if is_text(verb, b"mv") {
-        mv_of(alloc, words)
-    } else if is_text(verb, b"write") {
-        write_of(alloc, words)
-    } else if is_text(verb, b"fill") {
-        fill_of(alloc, words)
-    } else if is_text(verb, b"trunc") {
-        trunc_of(alloc, words)
-    } else {
-        Ok(None)
-    }
+    if words.is_empty() { Some(call) } else { None }
 }
 
-fn look_of(alloc: Global, verb: &[u8], words: &[&[u8]]) -> Result<Option<Call>, NoMemory>
-    ensures { IfOk result (λ call. call ≡ look_in verb.now (list_map (λ word. word.now) words.now)) }
+fn required(call: Option<Call>) -> Result<Call, Refusal>
+    ensures { Answers call result }
 {
-    if is_text(verb, b"read") {
-        read_of(alloc, words)
-    } else if is_text(verb, b"ls") {
-        Ok(path_alone(alloc, words)?.map(Call::List))
-    } else if is_text(verb, b"stat") {
-        Ok(path_alone(alloc, words)?.map(Call::Stat))
-    } else if is_text(verb, b"ckpts") && words.is_empty() {
-        Ok(Some(Call::Ckpts))
-    } else if is_text(verb, b"info") && words.is_empty() {
-        Ok(Some(Call::Info))
-    } else if is_text(verb, b"sync") && words.is_empty() {
-        Ok(Some(Call::Sync))
-    } else {
-        Ok(None)
-    }
+    call.ok_or(Refusal::NotThis)
 }
 
-fn naming_of(verb: &[u8], words: &[&[u8]]) -> Option<Call>
-    ensures { result ≡ naming_in verb.now (list_map (λ word. word.now) words.now) }
+fn call_with(alloc: Global, verb: Verb, words: &[&[u8]]) -> Result<Call, Refusal>
+    ensures { Answers (call_by verb (list_map (λ word. word.now) words.now)) result }
 {
-    if is_text(verb, b"create") {
-        create_of(words)
-    } else if is_text(verb, b"remove") {
-        name_alone(words).map(Call::Remove)
-    } else if is_text(verb, b"nodata") {
-        nodata_of(words)
-    } else if is_text(verb, b"removable") {
-        removable_of(words)
-    } else if is_text(verb, b"restore") {
-        name_alone(words).map(Call::Restore)
-    } else if is_text(verb, b"mount") {
-        mount_of(words)
-    } else {
-        None
+    match verb {
+        Verb::Make => Ok(Call::Make(path_alone(alloc, words)?)),
+        Verb::Mkdir => Ok(Call::Mkdir(path_alone(alloc, words)?)),
+        Verb::Rm => Ok(Call::Rm(path_alone(alloc, words)?)),
+        Verb::Rmdir => Ok(Call::Rmdir(path_alone(alloc, words)?)),
+        Verb::Mv => mv_of(alloc, words),
+        Verb::Write => write_of(alloc, words),
+        Verb::Fill => fill_of(alloc, words),
+        Verb::Trunc => trunc_of(alloc, words),
+        Verb::Read => read_of(alloc, words),
+        Verb::Ls => Ok(Call::List(path_alone(alloc, words)?)),
+        Verb::Stat => Ok(Call::Stat(path_alone(alloc, words)?)),
+        Verb::Create => required(create_of(words)),
+        Verb::Remove => required(name_alone(words).map(Call::Remove)),
+        Verb::Nodata => required(nodata_of(words)),
+        Verb::Removable => required(removable_of(words)),
+        Verb::Ckpts => required(alone(Call::Ckpts, words)),
+        Verb::Mount => required(mount_of(words)),
+        Verb::Umount => required(letter_alone(words).map(Call::Umount)),
+        Verb::Cread => cread_of(alloc, words),
+        Verb::Cls => cls_of(alloc, words),
+        Verb::Restore => required(name_alone(words).map(Call::Restore)),
+        Verb::Backup => required(backup_of(words)),
+        Verb::Full => required(letter_alone(words).map(Call::Full)),
+        Verb::Info => required(alone(Call::Info, words)),
+        Verb::Sync => required(alone(Call::Sync, words)),
     }
-}
-
-fn mounted_of(alloc: Global, verb: &[u8], words: &[&[u8]]) -> Result<Option<Call>, NoMemory>
-    ensures { IfOk result (λ call. call ≡ mounted_in verb.now (list_map (λ word. word.now) words.now)) }
-{
-    if is_text(verb, b"umount") {
-        Ok(letter_alone(words).map(Call::Umount))
-    } else if is_text(verb, b"cread") {
-        cread_of(alloc, words)
-    } else if is_text(verb, b"cls") {
-        cls_of(alloc, words)
-    } else if is_text(verb, b"backup") {
-        Ok(backup_of(words))
-    } else if is_text(verb, b"full") {
-        Ok(letter_alone(words).map(Call::Full))
-    } else {
-        Ok(None)
-    }
-}
-
-fn call_by_verb(alloc: Global, verb: &[u8], words: &[&[u8]]) -> Result<Option<Call>, NoMemory>
-    ensures { IfOk result (λ call. call ≡ call_in (verb.now ∷ list_map (λ word. word.now) words.now)) }
-{
-    if let Some(call) = change_of(alloc, verb, words)? {
-        return Ok(Some(call));
-    }
-    if let Some(call) = look_of(alloc, verb, words)? {
-        return Ok(Some(call));
-    }
-    if let Some(call) = naming_of(verb, words) {
-        return Ok(Some(call));
-    }
-    mounted_of(alloc, verb, words)
 }
 
 /// The call that these words stand for.
-pub fn call_of(alloc: Global, words: &[&[u8]]) -> Result<Option<Call>, NoMemory>
-    ensures { IfOk result (λ call. call ≡ call_in (list_map (λ word. word.now) words.now)) }
+pub fn call_of(alloc: Global, words: &[&[u8]]) -> Result<Call, Refusal>
+    ensures { Answers (call_in (list_map (λ word. word.now) words.now)) result }
 {
-    match words {
-        [verb, rest @ ..] => call_by_verb(alloc, verb, rest),
-        [] => Ok(None),
+    let [word, rest @ ..] = words else {
+        return Err(Refusal::NotThis);
+    };
+    match Verb::of(word) {
+        Some(verb) => call_with(alloc, verb, rest),
+        None => Err(Refusal::NotThis),
     }
 }

@@ -1,12 +1,15 @@
-ghost use Rattle.std.specs.Prelude.{◌≡◌, ◌∷◌, [], IfOk, map as list_map};
-ghost use Rattle.ck_script.specs.Grammar.{create_of as create_in, nodata_of as nodata_in, removable_of as removable_in, mount_of as mount_in, cread_of as cread_in, cls_of as cls_in, backup_of as backup_in, checkpoint_name as name_in};
+ghost use Rattle.std.specs.Prelude.{◌≡◌, ◌∷◌, [], map as list_map};
+ghost use Rattle.ck_script.specs.Grammar.{create_of as create_in, nodata_of as nodata_in, removable_of as removable_in, mount_of as mount_in, cread_of as cread_in, cls_of as cls_in, backup_of as backup_in};
+ghost use Rattle.ck_script.specs.Arguments.{checkpoint_name as name_in};
+ghost use Rattle.ck_script.specs.Refusal.{Answers};
 ghost use Rattle.std.specs.Option.{option_map};
 ghost use Rattle.ck_model.specs.declared.call.Call.TheVariants as calls;
 
-use crate::parts::{
+use crate::Refusal;
+use crate::arguments::{
     checkpoint_name, is_text, letter_of, path_of, place_of, read_length, switch_of,
 };
-use ck_model::{Call, NoMemory};
+use ck_model::Call;
 use std::alloc::Global;
 
 fn create(name: &[u8], nodata: bool, removable: bool) -> Option<Call>
@@ -104,57 +107,45 @@ pub fn mount_of(words: &[&[u8]]) -> Option<Call>
     }
 }
 
-fn cread(
-    alloc: Global,
-    letter: &[u8],
-    path: &[u8],
-    at: &[u8],
-    len: &[u8],
-) -> Result<Option<Call>, NoMemory>
-    ensures { IfOk result (λ call. call ≡ cread_in (letter.now ∷ path.now ∷ at.now ∷ len.now ∷ [])) }
+fn cread(alloc: Global, letter: &[u8], path: &[u8], at: &[u8], len: &[u8]) -> Result<Call, Refusal>
+    ensures { Answers (cread_in (letter.now ∷ path.now ∷ at.now ∷ len.now ∷ [])) result }
 {
     let Some(letter) = letter_of(letter) else {
-        return Ok(None);
-    };
-    let Some(path) = path_of(alloc, path)? else {
-        return Ok(None);
+        return Err(Refusal::NotThis);
     };
     let Some(at) = place_of(at) else {
-        return Ok(None);
+        return Err(Refusal::NotThis);
     };
     let Some(len) = read_length(len) else {
-        return Ok(None);
+        return Err(Refusal::NotThis);
     };
-    Ok(Some(Call::Cread(letter, path, at, len)))
+    Ok(Call::Cread(letter, path_of(alloc, path)?, at, len))
 }
 
-pub fn cread_of(alloc: Global, words: &[&[u8]]) -> Result<Option<Call>, NoMemory>
-    ensures { IfOk result (λ call. call ≡ cread_in (list_map (λ word. word.now) words.now)) }
+pub fn cread_of(alloc: Global, words: &[&[u8]]) -> Result<Call, Refusal>
+    ensures { Answers (cread_in (list_map (λ word. word.now) words.now)) result }
 {
     match words {
         [letter, path, at, len] => cread(alloc, letter, path, at, len),
-        _ => Ok(None),
+        _ => Err(Refusal::NotThis),
     }
 }
 
-fn cls(alloc: Global, letter: &[u8], path: &[u8]) -> Result<Option<Call>, NoMemory>
-    ensures { IfOk result (λ call. call ≡ cls_in (letter.now ∷ path.now ∷ [])) }
+fn cls(alloc: Global, letter: &[u8], path: &[u8]) -> Result<Call, Refusal>
+    ensures { Answers (cls_in (letter.now ∷ path.now ∷ [])) result }
 {
     let Some(letter) = letter_of(letter) else {
-        return Ok(None);
+        return Err(Refusal::NotThis);
     };
-    let Some(path) = path_of(alloc, path)? else {
-        return Ok(None);
-    };
-    Ok(Some(Call::Clist(letter, path)))
+    Ok(Call::Clist(letter, path_of(alloc, path)?))
 }
 
-pub fn cls_of(alloc: Global, words: &[&[u8]]) -> Result<Option<Call>, NoMemory>
-    ensures { IfOk result (λ call. call ≡ cls_in (list_map (λ word. word.now) words.now)) }
+pub fn cls_of(alloc: Global, words: &[&[u8]]) -> Result<Call, Refusal>
+    ensures { Answers (cls_in (list_map (λ word. word.now) words.now)) result }
 {
     match words {
         [letter, path] => cls(alloc, letter, path),
-        _ => Ok(None),
+        _ => Err(Refusal::NotThis),
     }
 }
 

@@ -1,129 +1,109 @@
-ghost use Rattle.std.specs.Prelude.{◌≡◌, ◌∷◌, [], IfOk, map as list_map};
+ghost use Rattle.std.specs.Prelude.{◌≡◌, ◌∷◌, [], map as list_map};
+ghost use Rattle.std.specs.Option.{option_map};
+ghost use Rattle.ck_model.specs.declared.call.Call.TheVariants as calls;
+ghost use Rattle.ck_script.specs.Arguments.{checkpoint_name as name_in};
+ghost use Rattle.ck_script.specs.Refusal.{Answers};
 ghost use Rattle.ck_script.specs.Grammar.{mv_of as mv_in, write_of as write_in, fill_of as fill_in, trunc_of as trunc_in, read_of as read_in};
 
-use crate::parts::{byte_of, bytes_of, fill_length, path_of, place_of, read_length};
-use ck_model::{Call, NoMemory};
+use crate::Refusal;
+use crate::arguments::{byte_of, bytes_of, fill_length, path_of, place_of, read_length};
+use ck_model::Call;
 use std::alloc::Global;
 
-fn mv(alloc: Global, path: &[u8], new_path: &[u8]) -> Result<Option<Call>, NoMemory>
-    ensures { IfOk result (λ call. call ≡ mv_in (path.now ∷ new_path.now ∷ [])) }
+fn mv(alloc: Global, path: &[u8], new_path: &[u8]) -> Result<Call, Refusal>
+    ensures { Answers (mv_in (path.now ∷ new_path.now ∷ [])) result }
 {
-    let Some(path) = path_of(alloc, path)? else {
-        return Ok(None);
-    };
-    let Some(new_path) = path_of(alloc, new_path)? else {
-        return Ok(None);
-    };
-    Ok(Some(Call::Mv(path, new_path)))
+    let path = path_of(alloc, path)?;
+    let new_path = path_of(alloc, new_path)?;
+    Ok(Call::Mv(path, new_path))
 }
 
-pub fn mv_of(alloc: Global, words: &[&[u8]]) -> Result<Option<Call>, NoMemory>
-    ensures { IfOk result (λ call. call ≡ mv_in (list_map (λ word. word.now) words.now)) }
+pub fn mv_of(alloc: Global, words: &[&[u8]]) -> Result<Call, Refusal>
+    ensures { Answers (mv_in (list_map (λ word. word.now) words.now)) result }
 {
     match words {
         [path, new_path] => mv(alloc, path, new_path),
-        _ => Ok(None),
+        _ => Err(Refusal::NotThis),
     }
 }
 
-fn write(alloc: Global, path: &[u8], at: &[u8], bytes: &[u8]) -> Result<Option<Call>, NoMemory>
-    ensures { IfOk result (λ call. call ≡ write_in (path.now ∷ at.now ∷ bytes.now ∷ [])) }
+fn write(alloc: Global, path: &[u8], at: &[u8], bytes: &[u8]) -> Result<Call, Refusal>
+    ensures { Answers (write_in (path.now ∷ at.now ∷ bytes.now ∷ [])) result }
 {
-    let Some(path) = path_of(alloc, path)? else {
-        return Ok(None);
-    };
     let Some(at) = place_of(at) else {
-        return Ok(None);
+        return Err(Refusal::NotThis);
     };
-    let Some(bytes) = bytes_of(alloc, bytes)? else {
-        return Ok(None);
-    };
-    Ok(Some(Call::Write(path, at, bytes)))
+    let path = path_of(alloc, path)?;
+    let bytes = bytes_of(alloc, bytes)?;
+    Ok(Call::Write(path, at, bytes))
 }
 
-pub fn write_of(alloc: Global, words: &[&[u8]]) -> Result<Option<Call>, NoMemory>
-    ensures { IfOk result (λ call. call ≡ write_in (list_map (λ word. word.now) words.now)) }
+pub fn write_of(alloc: Global, words: &[&[u8]]) -> Result<Call, Refusal>
+    ensures { Answers (write_in (list_map (λ word. word.now) words.now)) result }
 {
     match words {
         [path, at, bytes] => write(alloc, path, at, bytes),
-        _ => Ok(None),
+        _ => Err(Refusal::NotThis),
     }
 }
 
-fn fill(
-    alloc: Global,
-    path: &[u8],
-    at: &[u8],
-    len: &[u8],
-    byte: &[u8],
-) -> Result<Option<Call>, NoMemory>
-    ensures { IfOk result (λ call. call ≡ fill_in (path.now ∷ at.now ∷ len.now ∷ byte.now ∷ [])) }
+fn fill(alloc: Global, path: &[u8], at: &[u8], len: &[u8], byte: &[u8]) -> Result<Call, Refusal>
+    ensures { Answers (fill_in (path.now ∷ at.now ∷ len.now ∷ byte.now ∷ [])) result }
 {
-    let Some(path) = path_of(alloc, path)? else {
-        return Ok(None);
-    };
     let Some(at) = place_of(at) else {
-        return Ok(None);
+        return Err(Refusal::NotThis);
     };
     let Some(len) = fill_length(len) else {
-        return Ok(None);
+        return Err(Refusal::NotThis);
     };
-    let Some(byte) = byte_of(alloc, byte)? else {
-        return Ok(None);
-    };
-    Ok(Some(Call::Fill(path, at, len, byte)))
+    let byte = byte_of(alloc, byte)?;
+    Ok(Call::Fill(path_of(alloc, path)?, at, len, byte))
 }
 
-pub fn fill_of(alloc: Global, words: &[&[u8]]) -> Result<Option<Call>, NoMemory>
-    ensures { IfOk result (λ call. call ≡ fill_in (list_map (λ word. word.now) words.now)) }
+pub fn fill_of(alloc: Global, words: &[&[u8]]) -> Result<Call, Refusal>
+    ensures { Answers (fill_in (list_map (λ word. word.now) words.now)) result }
 {
     match words {
         [path, at, len, byte] => fill(alloc, path, at, len, byte),
-        _ => Ok(None),
+        _ => Err(Refusal::NotThis),
     }
 }
 
-fn trunc(alloc: Global, path: &[u8], size: &[u8]) -> Result<Option<Call>, NoMemory>
-    ensures { IfOk result (λ call. call ≡ trunc_in (path.now ∷ size.now ∷ [])) }
+fn trunc(alloc: Global, path: &[u8], size: &[u8]) -> Result<Call, Refusal>
+    ensures { Answers (trunc_in (path.now ∷ size.now ∷ [])) result }
 {
-    let Some(path) = path_of(alloc, path)? else {
-        return Ok(None);
-    };
     let Some(size) = place_of(size) else {
-        return Ok(None);
+        return Err(Refusal::NotThis);
     };
-    Ok(Some(Call::Trunc(path, size)))
+    Ok(Call::Trunc(path_of(alloc, path)?, size))
 }
 
-pub fn trunc_of(alloc: Global, words: &[&[u8]]) -> Result<Option<Call>, NoMemory>
-    ensures { IfOk result (λ call. call ≡ trunc_in (list_map (λ word. word.now) words.now)) }
+pub fn trunc_of(alloc: Global, words: &[&[u8]]) -> Result<Call, Refusal>
+    ensures { Answers (trunc_in (list_map (λ word. word.now) words.now)) result }
 {
     match words {
         [path, size] => trunc(alloc, path, size),
-        _ => Ok(None),
+        _ => Err(Refusal::NotThis),
     }
 }
 
-fn read(alloc: Global, path: &[u8], at: &[u8], len: &[u8]) -> Result<Option<Call>, NoMemory>
-    ensures { IfOk result (λ call. call ≡ read_in (path.now ∷ at.now ∷ len.now ∷ [])) }
+fn read(alloc: Global, path: &[u8], at: &[u8], len: &[u8]) -> Result<Call, Refusal>
+    ensures { Answers (read_in (path.now ∷ at.now ∷ len.now ∷ [])) result }
 {
-    let Some(path) = path_of(alloc, path)? else {
-        return Ok(None);
-    };
     let Some(at) = place_of(at) else {
-        return Ok(None);
+        return Err(Refusal::NotThis);
     };
     let Some(len) = read_length(len) else {
-        return Ok(None);
+        return Err(Refusal::NotThis);
     };
-    Ok(Some(Call::Read(path, at, len)))
+    Ok(Call::Read(path_of(alloc, path)?, at, len))
 }
 
-pub fn read_of(alloc: Global, words: &[&[u8]]) -> Result<Option<Call>, NoMemory>
-    ensures { IfOk result (λ call. call ≡ read_in (list_map (λ word. word.now) words.now)) }
+pub fn read_of(alloc: Global, words: &[&[u8]]) -> Result<Call, Refusal>
+    ensures { Answers (read_in (list_map (λ word. word.now) words.now)) result }
 {
     match words {
         [path, at, len] => read(alloc, path, at, len),
-        _ => Ok(None),
+        _ => Err(Refusal::NotThis),
     }
 }

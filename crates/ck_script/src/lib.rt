@@ -1,26 +1,24 @@
 //! Scripts: their lines, and the calls that the lines stand for.
 #![tactic(auto)]
 
-mod built;
+mod arguments;
 mod calls;
 mod checkpoints;
-mod draws;
 mod fault;
 mod files;
 mod form;
-mod forms;
-mod generator;
 mod line;
 mod parser;
-mod parts;
+mod refusal;
 mod script;
 mod tally;
 mod turns;
+mod verb;
 mod words;
 
 pub use fault::ParseFault;
-pub use generator::generate;
 pub use line::{Line, Lines};
 pub use parser::parse;
+use refusal::Refusal;
 pub use script::Script;
 pub use turns::Turns;

@@ -10,14 +10,12 @@ ghost use Rattle.ck_script.specs.declared.form.Form.TheVariants as forms;
 ghost use Rattle.ck_script.specs.Reading.{is_skipped as skips, long_line as long_line_of, nothing_read, with_line, read_lines, read_script};
 ghost use Rattle.ck_script.specs.Steps.{IsFaultOf, IsRefusal, line_at};
 
-use crate::forms::built_form;
+use crate::form::built_form;
 use crate::tally::Tally;
 use crate::words::words_in;
-use crate::{Lines, ParseFault, Script};
+use crate::{Lines, ParseFault, Refusal, Script};
+use ck_model::SCRIPT_LIMIT;
 use std::alloc::Global;
-
-/// The longest script, in bytes.
-const SCRIPT_LIMIT: usize = 16_777_216;
 
 fn is_skipped(line: &[u8], words: &[&[u8]]) -> bool
     requires { list_map (λ word. word.now) words.now ≡ words_of line.now }
@@ -34,9 +32,10 @@ fn read_line(alloc: Global, tally: &mut Tally, number: u32, line: &[u8]) -> Resu
     if is_skipped(line, &words) {
         return Ok(());
     }
-    match built_form(alloc, &words)? {
-        Some(form) => tally.add(number, form),
-        None => Err(ParseFault::BadLine(number)),
+    match built_form(alloc, &words) {
+        Ok(form) => tally.add(number, form),
+        Err(Refusal::NotThis) => Err(ParseFault::BadLine(number)),
+        Err(Refusal::NoMemory) => Err(ParseFault::NoMemory),
     }
 }
 

@@ -11,11 +11,11 @@ use Rattle.ck_model.specs.declared.checkpoint.Fileset.{Fileset}
 use Rattle.ck_model.specs.declared.checkpoint.Counters.{Counters}
 use Rattle.ck_model.specs.Key.{entry_cmp, entry_cmp_total, entry_cmp_exact}
 use Rattle.ck_model.specs.Table.{Table, Entries, Filesets}
+use Rattle.ck_model.specs.Ordered.{Edits}
+use Rattle.ck_model.proofs.SizeLaws.{len-from_entries-le}
+use Rattle.ck_model.proofs.PlaceLaws.{len_of, from_nothing}
 use Rattle.ck_record.specs.declared.records.Record.{Record}
 use Rattle.ck_area.specs.Area.{Area, entries_by, entries_in, filesets_by, filesets_in}
-use Rattle.ck_area.proofs.UndamagedLemmas.{len-from_entries-le}
-use Rattle.ck_model.specs.Ordered.{Edits}
-use Rattle.ck_model.proofs.Places.{len_of, from_nothing}
 use Rattle.ck_slots.specs.Recorded.{filesets_of}
 use Rattle.ck_slots.specs.Building.{with_entries, with_filesets}
 

@@ -7,13 +7,12 @@ use Rattle.std.specs.FinMap.{is_sorted}
 use Rattle.std.specs.FinMap.Entries.{below_all}
 use Rattle.std.proofs.lemmas.Bool.{cases_lt}
 use Rattle.std.proofs.lemmas.Bool.Decides.{nat_tests}
-use Rattle.ck_model.specs.declared.key.Key.{Key}
 use Rattle.std.specs.Cmp.Lexicographic.{slice_cmp}
+use Rattle.ck_model.specs.declared.key.Key.{Key}
 use Rattle.ck_model.specs.Key.{spelled, entry_cmp, entry_cmp_total}
 use Rattle.ck_slots.specs.declared.search.Cut.{Cut}
 use Rattle.ck_slots.specs.declared.search.Cut.TheVariants.{Fileset, Before, Behind}
 use Rattle.ck_slots.specs.Cut.{front, stands_before}
-use Rattle.ck_model.specs.Ordered.{place_of}
 
 pub both_of : (a b : Bool) → T (a && b) → T a × T b
 both_of true true h = (tt, tt)
@@ -96,8 +95,3 @@ front_le test [] = omega arith
 front_le test (e ∷ es) =
     let rest : front test es ≤ length es = front_le test es in
     elim (test e.0) as (λ b. cond b (suc (front test es)) 0 ≤ suc (length es)) [ true ↦ omega arith | false ↦ omega arith ]
-
--- the place of a key is that of the cut before it
-pub place_before : {X : Type 0} (fs : ℕ) (key : Key) (es : List ((ℕ × Key) × X)) → place_of entry_cmp (fs, key) es ≡ front (stands_before (Before fs key)) es
-place_before fs key [] = refl
-place_before fs key (e ∷ es) = ap (λ n. cond (is_gt (entry_cmp (fs, key) e.0)) (suc n) 0) (place_before fs key es)

@@ -8,7 +8,7 @@ use Rattle.ck_model.specs.declared.key.Key.{Key}
 use Rattle.ck_model.specs.declared.held.Held.{Held}
 use Rattle.ck_model.specs.Key.{entry_cmp, entry_cmp_total, entry_cmp_exact}
 use Rattle.ck_model.specs.Ordered.{IsFoundAt, IsGapAt, Edits}
-use Rattle.ck_model.proofs.Places.{set_found, set_gap, unset_found, get_found}
+use Rattle.ck_model.proofs.PlaceLaws.{set_found, set_gap, unset_found, get_found}
 use Rattle.ck_slots.specs.declared.slot.Slot.{Slot}
 use Rattle.ck_slots.specs.Arranged.{arranged, entries_of, entry_of, entry_in, no_slot, StandOnce, IsStored}
 use Rattle.ck_slots.proofs.ArrangedLemmas.{length-arranged, get_or-arranged, arranged-insert, arranged-remove, arranged-set_absent, arranged-set_once, arranged-push, entry_in-set, entry_in-pushed}

@@ -8,14 +8,14 @@ use Rattle.ck_model.specs.declared.key.Key.TheVariants.{Node}
 use Rattle.ck_model.specs.declared.held.Held.{Held}
 use Rattle.ck_model.specs.declared.held.Held.TheVariants.{Plain}
 use Rattle.ck_model.specs.declared.held.Small.TheVariants.{Dir}
-use Rattle.ck_log.specs.Layout.{table_blocks}
-use Rattle.ck_log.specs.FirstTable.{blank_block, counters_slot, root_slot, first_block, first_table}
-use Rattle.ck_log.proofs.FirstSlots.{slot_0-first_block, slot_1-first_block, free_slots-first_block}
 use Rattle.ck_record.specs.declared.records.Record.TheVariants.{Free, Counters as CountersRecord, Entry}
 use Rattle.ck_record.specs.Fields.{zeros, spelled}
 use Rattle.ck_record.specs.Record.{spelling}
+use Rattle.ck_log.specs.Layout.{table_blocks}
+use Rattle.ck_log.specs.FirstTable.{blank_block, counters_slot, root_slot, first_block, first_table}
+use Rattle.ck_log.proofs.FirstSlotLaws.{slot_0-first_block, slot_1-first_block, free_slots-first_block}
 use Rattle.ck_area.specs.Area.{AreSlots, new_table, written_as}
-use Rattle.ck_area.proofs.NewTable.{new_entries, new_filesets, new_table_within, new_count}
+use Rattle.ck_area.proofs.NewTableLaws.{new_entries, new_filesets, new_table_within, new_count}
 use Rattle.ck_slots.specs.Written.{record_in, IsSpelled, AreSpelled}
 use Rattle.ck_slots.proofs.SpellingLemmas.{entry_slot, free_slot, spelled_slots}
 

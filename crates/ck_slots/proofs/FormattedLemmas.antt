@@ -5,7 +5,7 @@ use Rattle.ck_model.specs.declared.key.Key.TheVariants.{Node}
 use Rattle.ck_model.specs.declared.held.Held.TheVariants.{Plain}
 use Rattle.ck_model.specs.declared.held.Small.TheVariants.{Dir}
 use Rattle.ck_model.specs.declared.checkpoint.Fileset.{Fileset}
-use Rattle.ck_model.proofs.Places.{from_nothing}
+use Rattle.ck_model.proofs.PlaceLaws.{from_nothing}
 use Rattle.ck_area.specs.Area.{new_table}
 use Rattle.ck_slots.specs.declared.entries.Entries.{Entries as Arrangement}
 use Rattle.ck_slots.specs.Entries.{entries_in}

@@ -178,14 +178,6 @@ crowded-join old new at before joined crowded k below = elim (cases_lt (suc k) a
       omega (arith, crowded k below, ap length (before k below), ap (λ n. length (piece_at new n)) last, ap (λ n. length (piece_at old n)) last, ap length joined, length-append (piece_at old at) (piece_at old (suc at)))
 ]
 
-pub crowded-next : (pieces : List (List ℕ)) (at next : ℕ) → next ≡ suc at → 512 < length (piece_at pieces at) + length (piece_at pieces (suc at)) → AreCrowded pieces at → AreCrowded pieces next
-crowded-next pieces at next follows more crowded k below = elim (cases_lt k at) [
-  | inl inside ↦ crowded k inside
-  | inr end ↦
-      let last : k ≡ at = omega arith in
-      omega (arith, more, ap (λ n. length (piece_at pieces n)) last, ap (λ n. length (piece_at pieces (suc n))) last)
-]
-
 -- where no two neighbours fit into one piece, the pieces are few
 pub few_pieces : (pieces : List (List ℕ)) → ((k : ℕ) → suc k < length pieces → 512 < length (piece_at pieces k) + length (piece_at pieces (suc k))) → 512 * length pieces ≤ 2 * length (concat pieces) + 512
 few_pieces [] crowded = omega arith

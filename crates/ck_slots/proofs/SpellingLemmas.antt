@@ -1,11 +1,9 @@
 -- A table in blocks: each slot has the spelling of its record.
-use Rattle.std.proofs.Common.{◌≡◌, ◌≢◌, All, inl, inr, append-nil, ℕ, zero, suc, ◌+◌, ◌-◌, ◌*◌, ◌/◌, ◌%◌, ◌<◌, ◌≤◌, List, [], ◌∷◌, ◌++◌, map as list_map, length, get_or, take, drop, Some, None, IfSome, refl, sym, ap, subst, ◌∙◌, length-append, arith}
+use Rattle.std.proofs.Common.{◌≡◌, ◌≢◌, All, append-nil, ℕ, zero, suc, ◌+◌, ◌-◌, ◌*◌, ◌/◌, ◌%◌, ◌<◌, ◌≤◌, List, [], ◌∷◌, ◌++◌, map as list_map, length, get_or, take, drop, Some, None, IfSome, refl, sym, ap, subst, ◌∙◌, arith}
 use Rattle.std.specs.Prelude.{replicate}
 use Rattle.std.specs.List.{AllByRecursion, slice_get}
 use Rattle.std.specs.FinMap as map
-use Rattle.std.proofs.lemmas.List.{get_or-replicate, get_or_append_left, get_or-append-add, length-map, length-replicate, take_at, drop_at, drop-drop}
-use lib.Seq.{get_or-append_seam}
-use Rattle.std.proofs.lemmas.Bool.{cases_lt}
+use Rattle.std.proofs.lemmas.List.{get_or-replicate, get_or-append-add, length-map, length-replicate, take_at, drop_at, drop-drop}
 use Rattle.ck_model.specs.declared.key.Key.{Key}
 use Rattle.ck_model.specs.declared.held.Held.{Held}
 use Rattle.ck_model.specs.declared.checkpoint.Fileset.{Fileset}
@@ -13,10 +11,10 @@ use Rattle.ck_model.specs.Table.{Table, IsTable, IsSized, record_count}
 use Rattle.ck_record.specs.declared.records.Record.{Record}
 use Rattle.ck_record.specs.declared.records.Record.TheVariants.{Free, Counters as CountersRecord, Fileset as FilesetRecord, Entry}
 use Rattle.ck_record.specs.Record.{IsRecord, spelling}
-use Rattle.ck_record.proofs.LengthLemmas.{long_spelling}
+use Rattle.ck_record.proofs.LengthLaws.{long_spelling}
 use Rattle.ck_area.specs.Area.{Blocks, AreSlots, IsReadAs, slot_at, slot_bytes, records_of, written_as}
-use Rattle.ck_area.proofs.WrittenLemmas.{count_written, length_written, written_within}
-use Rattle.ck_slots.specs.Written.{record_in, IsSpelled, AreSpelled}
+use Rattle.ck_area.proofs.WrittenLaws.{count_written, length_written, written_within}
+use Rattle.ck_slots.specs.Written.{record_in, AreSpelled}
 use Rattle.ck_slots.proofs.TableLemmas.{some_same, none_some}
 
 -- ---- the record in a slot
@@ -75,18 +73,6 @@ module _ (t : Table) where
 
   pub free_slot : (slot : ℕ) → 1 + record_count t ≤ slot → Free ≡ record_in t slot
   free_slot slot behind = sym (past_all (CountersRecord t.counters ∷ records_of t) slot (omega (arith, behind, count_written t)))
-
--- ---- one more block
-
-pub spelled_more : (t : Table) (blocks : Blocks) (block : List ℕ) → AreSpelled t blocks → IsSpelled t (32 * length blocks) block → AreSpelled t (blocks ++ block ∷ [])
-spelled_more t blocks block so_far here at low =
-    elim (cases_lt at (length blocks)) [
-      | inl before ↦ subst (IsSpelled t (32 * at)) (sym (get_or_append_left blocks (block ∷ []) [] at before)) (so_far at before)
-      | inr behind ↦
-          let last : length blocks ≡ at = omega (arith, low, behind, length-append blocks (block ∷ [])) in
-          subst (λ k. IsSpelled t (32 * k) (get_or (blocks ++ block ∷ []) k [])) last
-          (subst (IsSpelled t (32 * length blocks)) (sym (get_or-append_seam blocks block [] [])) here)
-    ]
 
 -- ---- from blocks to slots
 

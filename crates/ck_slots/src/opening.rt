@@ -1,7 +1,7 @@
 // The slots of a region's table: read, and refused or not.
 ghost use Rattle.std.specs.Prelude.{◌≡◌, ◌≤◌, ◌*◌, false, None, IfOk, IfErr, OnOk, length};
 ghost use Rattle.ck_log.specs.Layout.{table_blocks, size_of};
-ghost use Rattle.ck_log.specs.Reads.{OnlyReads};
+ghost use Rattle.ck_disk.specs.Runs.{OnlyReads};
 ghost use Rattle.ck_area.specs.Damage.{damage, is_unbuilt};
 ghost use Rattle.ck_slots.specs.Opened.{AreReadFrom, IsRefusal, IsReadingFault};
 

@@ -6,7 +6,7 @@ ghost use Rattle.ck_disk.specs.Disk.{Agrees, Outside, IsSynced};
 ghost use Rattle.ck_log.specs.Layout.{base_of, size_of, table_blocks};
 ghost use Rattle.ck_log.specs.FirstTable.{first_table};
 ghost use Rattle.ck_log.specs.Images.{table_on, Settled};
-ghost use Rattle.ck_log.specs.Reads.{OnlyReads};
+ghost use Rattle.ck_disk.specs.Runs.{OnlyReads};
 ghost use Rattle.ck_model.specs.Rules.{IsSound};
 ghost use Rattle.ck_model.specs.Standing.{extents_of};
 ghost use Rattle.ck_model.specs.Table.{IsTable, IsSized};

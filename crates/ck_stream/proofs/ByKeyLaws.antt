@@ -19,14 +19,14 @@ use Rattle.ck_model.specs.contracts.key.KeyOrd.TheImpl.{ghosts}
 use Rattle.ck_model.specs.Cells.{Content}
 use Rattle.ck_model.specs.Key.{key_cmp, key_cmp_total, key_cmp_exact}
 use Rattle.ck_model.specs.Streams.{set_to, set_all, applied}
-use Rattle.ck_model.proofs.CellsLemmas.{tied-is, entries_are}
+use Rattle.ck_model.proofs.CellLaws.{tied-is, entries_are}
 use Rattle.ck_stream.specs.declared.item.Item.{Item}
 use Rattle.ck_stream.specs.declared.item.Item.TheVariants.{Put, Removed}
 use Rattle.ck_stream.specs.Right.{change_of, changes, contents, IsItem, IsPut, AreItems}
 use Rattle.ck_stream.specs.ByKey.{records, held_at}
 use Rattle.ck_stream.proofs.ItemsLaws.{split}
 
-both : (a b : Bool) → a ≡ true → b ≡ true → (a && b) ≡ true
+pub both : (a b : Bool) → a ≡ true → b ≡ true → (a && b) ≡ true
 both a b p q = rw (p, q) refl
 
 less : (r : Ordering) → is_lt r ≡ true → r ≡ Less
@@ -41,7 +41,7 @@ then_equal Less = refl
 then_equal Equal = refl
 then_equal Greater = refl
 
-derived_key : (x y : Key) → (ghosts).cmp x y ≡ key_cmp x y
+pub derived_key : (x y : Key) → (ghosts).cmp x y ≡ key_cmp x y
 derived_key (Name d n) (Name e m) = refl
 derived_key (Name d n) (Node y) = refl
 derived_key (Name d n) (Block y j) = refl
@@ -57,7 +57,7 @@ reversed_equal Less = refl
 reversed_equal Equal = refl
 reversed_equal Greater = refl
 
-same_test : (x y : Key) → is_eq ((ghosts).cmp x y) ≡ eq_by_cmp key_cmp y x
+pub same_test : (x y : Key) → is_eq ((ghosts).cmp x y) ≡ eq_by_cmp key_cmp y x
 same_test x y = ap is_eq (derived_key x y ∙ key_cmp_total.antisymm x y) ∙ reversed_equal (key_cmp y x)
 
 held_is : (q : Key) (es : List (Key × Payload)) → find key_cmp q (contents (records es)) ≡ option_map (λ payload. Some payload) (lookup (is_at ((ghosts).cmp q)) es)
@@ -111,7 +111,7 @@ each_left test (e ∷ es) each =
 -- ---- all changes
 
 -- a key below all others isn't found
-find_above : {X : Type 0} (key : Key) (es : List (Key × X)) → below_all key_cmp key es ≡ true → find key_cmp key es ≡ None
+pub find_above : {X : Type 0} (key : Key) (es : List (Key × X)) → below_all key_cmp key es ≡ true → find key_cmp key es ≡ None
 find_above key [] h = refl
 find_above key (e ∷ es) h =
     let parts = split (is_lt (key_cmp key e.0)) (below_all key_cmp key es) h in

@@ -19,8 +19,8 @@ use Rattle.ck_stream.specs.declared.fault.StreamFault.{StreamFault}
 use Rattle.ck_stream.specs.Spelling.{item_text, items_text}
 use Rattle.ck_stream.specs.Right.{key_of, change_of, changes, IsItem, IsPut}
 use Rattle.ck_stream.specs.Reading.{◌>>=◌, located, follows, record_at, items_at}
-use Rattle.ck_stream.proofs.FieldLaws.{IsBytes, IsBytes-rest, bind_ok, Takes, Takes-then}
-use Rattle.ck_stream.proofs.RecordLaws.{number_of, tag_of, record_takes, record_again}
+use Rattle.ck_stream.proofs.FieldLemmas.{IsBytes, IsBytes-rest, bind_ok, Takes, Takes-then}
+use Rattle.ck_stream.proofs.RecordLemmas.{number_of, tag_of, record_takes, record_again}
 use Rattle.ck_stream.proofs.Loop.{one_more}
 
 -- ---- order

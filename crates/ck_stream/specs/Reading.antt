@@ -10,6 +10,7 @@ use Rattle.ck_model.specs.declared.key.Key.TheVariants.{Name, Node, Block}
 use Rattle.ck_model.specs.declared.cell.Payload.TheVariants.{To, File, Dir, Bytes}
 use Rattle.ck_model.specs.Key.{key_cmp}
 use Rattle.ck_model.specs.Held.{index_limit}
+use Rattle.ck_model.specs.Limits.{file_limit, block_len}
 use Rattle.ck_stream.specs.declared.item.Item.{Item}
 use Rattle.ck_stream.specs.declared.item.Item.TheVariants.{Put, Removed}
 use Rattle.ck_stream.specs.declared.fault.Flaw.{Flaw}
@@ -23,7 +24,7 @@ use Rattle.ck_stream.specs.declared.tag.Header.TheVariants as header
 use Rattle.ck_stream.specs.declared.stream.Stream.{Stream}
 use Rattle.ck_stream.specs.declared.stream.Stream.TheVariants as stream
 use Rattle.ck_stream.specs.Spelling.{full_magic, changed_magic}
-use Rattle.ck_stream.specs.Right.{key_of, size_limit, block_len}
+use Rattle.ck_stream.specs.Right.{key_of}
 
 infixl 10 ◌>>=◌
 abbrev pub ◌>>=◌ : {A B E : Type 0} → Result A E → (A → Result B E) → Result B E
@@ -92,7 +93,7 @@ index_at bytes = do
 
 -- the size of a file
 abbrev pub size_in : ℕ × List ℕ → Result (ℕ × List ℕ) Flaw
-size_in size = if nat_le size.0 size_limit then Ok size else Err flaw.Wrong
+size_in size = if nat_le size.0 file_limit then Ok size else Err flaw.Wrong
 
 unfoldable pub size_at : List ℕ → Result (ℕ × List ℕ) Flaw
 size_at bytes = do

@@ -1,5 +1,5 @@
 -- Which records and ids a stream may have.
-use Rattle.std.specs.Prelude.{◌≡◌, ℕ, ◌≤◌, ◌<◌, ◌^◌, true, List, [], ◌∷◌, length, map as list_map, Option, Some, None, ⊤}
+use Rattle.std.specs.Prelude.{◌≡◌, ◌≤◌, ◌<◌, ◌^◌, true, List, [], ◌∷◌, length, map as list_map, Option, Some, None, ⊤}
 use Rattle.std.specs.List.{AllByRecursion}
 use Rattle.std.specs.FinMap.{is_sorted}
 use Rattle.ck_model.specs.declared.key.Key.{Key}
@@ -9,6 +9,7 @@ use Rattle.ck_model.specs.declared.cell.Payload.TheVariants.{To, File, Dir, Byte
 use Rattle.ck_model.specs.Key.{key_cmp}
 use Rattle.ck_model.specs.Held.{IsWord, IsKey}
 use Rattle.ck_model.specs.Cells.{Content}
+use Rattle.ck_model.specs.Limits.{block_len, file_limit}
 use Rattle.ck_stream.specs.declared.item.Item.{Item}
 use Rattle.ck_stream.specs.declared.item.Item.TheVariants.{Put, Removed}
 use Rattle.ck_stream.specs.declared.stream.Full.{Full}
@@ -16,16 +17,10 @@ use Rattle.ck_stream.specs.declared.stream.Changed.{Changed}
 use Rattle.ck_stream.specs.declared.stream.Stream.{Stream}
 use Rattle.ck_stream.specs.declared.stream.Stream.TheVariants as stream
 
-abbrev pub size_limit : ℕ
-size_limit = 1073741824
-
-abbrev pub block_len : ℕ
-block_len = 4096
-
 -- what such a key may hold: a name a node, a node a file or a directory, a block its bytes
 abbrev pub Holds : Key → Payload → Type 0
 Holds (Name directory name) (To node) = IsWord node
-Holds (Node node) (File size) = size ≤ size_limit
+Holds (Node node) (File size) = size ≤ file_limit
 Holds (Node node) Dir = ⊤
 Holds (Block node index) (Bytes bytes) = length bytes ≡ block_len
 Holds _ _ = ⊥

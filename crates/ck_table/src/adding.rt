@@ -9,10 +9,7 @@ ghost use Rattle.ck_model.specs.Rules.{IsSound};
 ghost use Rattle.ck_table.specs.Adding.{new_id, new_fileset, with_added};
 
 use crate::listing::{count_live, find};
-use ck_model::{Counters, Fileset, Kind, Meta, NameBytes};
-
-/// The most checkpoints that stand at once.
-const MOST_CHECKPOINTS: u32 = 64;
+use ck_model::{CHECKPOINT_LIMIT, Counters, Fileset, Kind, Meta, NameBytes};
 
 /// The id that no checkpoint has.
 const LAST_ID: u32 = 4_294_967_295;
@@ -35,7 +32,7 @@ pub fn new_id<M: Meta>(meta: &M, name: &NameBytes) -> Result<u32, AddFault>
     if find(meta, name).is_some() {
         return Err(AddFault::Exists);
     }
-    if count_live(meta) >= MOST_CHECKPOINTS {
+    if count_live(meta) >= CHECKPOINT_LIMIT {
         return Err(AddFault::TooMany);
     }
     let id = meta.counters().id;

@@ -1,4 +1,4 @@
 pub mod WordsLemmas
 pub mod DecimalLemmas
 pub mod HexadecimalLemmas
-pub mod AppendLemmas
+pub mod AppendLaws

@@ -21,15 +21,14 @@ use Rattle.ck_model.specs.Changing.{has_names}
 use Rattle.ck_model.specs.Reading.{child_in, children}
 use Rattle.ck_model.specs.Table.{Table, IsTable}
 use Rattle.ck_model.specs.Chain.{value_at}
-use Rattle.ck_model.proofs.CellsLemmas.{tied-is}
-use Rattle.ck_model.proofs.Filesets.{all_found}
-use Rattle.ck_chain.specs.Following.{is_before, IsNext}
-use Rattle.ck_chain.proofs.KeyOrder.{is_behind}
+use Rattle.ck_model.proofs.CellLaws.{tied-is}
+use Rattle.ck_model.proofs.FilesetLaws.{all_found}
+use Rattle.ck_model.proofs.CaseLaws.{true_or_false}
+use Rattle.ck_chain.specs.Following.{is_before, IsNext, is_behind}
+use Rattle.ck_chain.proofs.KeyOrderLaws.{same_or_before}
 use Rattle.ck_tree.specs.Listing.{child_at, least_name}
 use Rattle.ck_tree.specs.Standing.{StandsFor}
-use Rattle.ck_chain.proofs.KeyOrder.{same_or_before}
-use Rattle.ck_chain.proofs.FollowingLemmas.{true_or_false}
-use Rattle.ck_tree.proofs.StandingLemmas.{value_key}
+use Rattle.ck_tree.proofs.StandingLaws.{value_key}
 use Rattle.ck_tree.proofs.ListingLemmas.{left, left_next, none_before, none_left, Skips}
 
 -- no name is before the least one

@@ -1,9 +1,9 @@
 pub mod Asking
-pub mod StandingLemmas
+pub mod StandingLaws
 pub mod ListingLemmas
 pub mod ChildrenLemmas
 pub mod RemovingLemmas
-pub mod PathLaws
+pub mod PathLemmas
 pub mod DeletionLemmas
 pub mod ResizingLemmas
 pub mod WritingLemmas

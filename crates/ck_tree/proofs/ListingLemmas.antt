@@ -10,11 +10,10 @@ use Rattle.std.specs.FinMap.Entries.{below_all}
 use Rattle.ck_model.specs.declared.key.Key.{Key}
 use Rattle.ck_model.specs.Key.{key_cmp, key_cmp_total, key_cmp_exact}
 use Rattle.ck_model.specs.Table.{Table}
-use Rattle.ck_model.proofs.Rows.{head_of, both_of}
-use Rattle.ck_model.proofs.Filesets.{not_below}
-use Rattle.ck_chain.specs.Following.{is_before, IsNext}
-use Rattle.ck_chain.proofs.KeyOrder.{is_behind}
-use Rattle.ck_chain.proofs.KeyOrder.{behind-itself, behind-trans, behind-once}
+use Rattle.ck_model.proofs.CaseLaws.{head_of, both_of}
+use Rattle.ck_model.proofs.FilesetLaws.{not_below}
+use Rattle.ck_chain.specs.Following.{is_before, IsNext, is_behind}
+use Rattle.ck_chain.proofs.KeyOrderLaws.{behind-itself, behind-trans, behind-once}
 
 pub true_of : (b : Bool) → T b → b ≡ true
 true_of true h = refl

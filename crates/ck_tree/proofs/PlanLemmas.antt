@@ -17,13 +17,14 @@ use Rattle.ck_model.specs.declared.checkpoint.Counters.{Counters}
 use Rattle.ck_model.specs.declared.call.Call.TheVariants as call
 use Rattle.ck_model.specs.declared.reply.Reply.{Reply}
 use Rattle.ck_model.specs.declared.reply.Reply.TheVariants as reply
+use Rattle.ck_model.specs.declared.cell.Payload.TheVariants as payload
 use Rattle.ck_model.specs.Name.{IsFileName}
 use Rattle.ck_model.specs.Path.{IsPath}
-use Rattle.ck_model.specs.declared.cell.Payload.TheVariants as payload
 use Rattle.ck_model.specs.Held.{IsKey, IsWord, IsEntry, IsStamp, BelongsTo}
 use Rattle.ck_model.specs.Cells.{Cells, size_at}
 use Rattle.ck_model.specs.Changes.{touched, with_node}
-use Rattle.ck_model.specs.Changing.{with_primary, has_names, is_spent, file_limit}
+use Rattle.ck_model.specs.Changing.{with_primary, has_names, is_spent}
+use Rattle.ck_model.specs.Limits.{file_limit}
 use Rattle.ck_model.specs.Rules.{IsOrderly, KeyBelow, SmallBelow}
 use Rattle.ck_model.specs.Table.{Table, IsTable, IsSized, column}
 use Rattle.ck_model.specs.Chain.{present, value_at}
@@ -35,13 +36,13 @@ use Rattle.ck_chain.specs.Changes.{key_of}
 use Rattle.ck_tree.specs.declared.fault.TreeFault.{TreeFault}
 use Rattle.ck_tree.specs.Removing.{is_block_from, blocks_from, deletions, file_keys}
 use Rattle.ck_tree.specs.Resizing.{first_past, cut_write, cut_changes, size_put, size_changes}
-use Rattle.ck_tree.proofs.ResizingLemmas.{Fit, fit-none, fit-push, fit-weaker, resized_is}
 use Rattle.ck_tree.specs.Plan.{block_by, numbers_after, StandsForPrimary, MayBeMade, Differ, IsPlan, making}
 use Rattle.ck_tree.specs.Standing.{StandsFor}
-use Rattle.ck_tree.proofs.PathLaws.{node_stands, file_node, directory_node, IsNameIn, name_in, new_name_is, name_stands}
 use Rattle.ck_tree.specs.Writing.{grown_put, block_writes, write_changes}
+use Rattle.ck_tree.proofs.ResizingLemmas.{Fit, fit-none, fit-push, fit-weaker, resized_is}
+use Rattle.ck_tree.proofs.PathLemmas.{node_stands, file_node, directory_node, IsNameIn, name_in, new_name_is, name_stands}
 use Rattle.ck_tree.proofs.WritingLemmas.{in_range, written_is, writes_first, grown_differ, grown_few}
-use Rattle.ck_tree.proofs.StandingLemmas.{stands_on, value_held}
+use Rattle.ck_tree.proofs.StandingLaws.{stands_on, value_held}
 use Rattle.ck_tree.proofs.DeletionLemmas.{all_deletions, file_deleted, file_differs, blocks_stand, file_few, IsNoBlock, node_no_block, blocks_differ, blocks_apart, blocks_few}
 
 -- ---- what stands has an entry in the primary
@@ -379,17 +380,6 @@ module _ (t : Table) (lawful : IsTable t) (orderly : IsOrderly t) (stamp : nat_e
   never : (b : Bool) → (b && false) ≡ false
   never true = refl
   never false = refl
-
-  -- no bytes change nothing
-  pub writing_none : (path : List (List ℕ)) (at node : ℕ) → Finds t (λ cells. file_at cells path) node → (bytes : List ℕ) → length bytes ≡ 0 → IsPlan t (call.Write path at bytes) []
-  writing_none path at node found (byte ∷ bytes) none = absurd (omega (arith, none))
-  writing_none path at node found [] none = record {
-    first = refl;
-    once = tt;
-    each = All-nil (MayBeMade t (numbers_after (call.Write path at []) t.counters));
-    few = omega arith;
-    leads = λ w s. rw (← found w.primary s.cells) (rw (left w s) refl);
-  }
 
   pub writing : (path : List (List ℕ)) (at node old : ℕ) → Finds t (λ cells. file_at cells path) node → ((cells : Cells) → StandsFor t 0 cells → old ≡ size_at cells node)
       → (bytes : List ℕ) → 0 < length bytes → at + length bytes ≤ file_limit → IsPlan t (call.Write path at bytes) (write_changes node old at (length bytes))

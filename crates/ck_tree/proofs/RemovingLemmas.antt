@@ -15,12 +15,13 @@ use Rattle.ck_model.specs.declared.change.Change.{Change}
 use Rattle.ck_model.specs.declared.change.Change.TheVariants.{Del}
 use Rattle.ck_model.specs.Key.{key_cmp, key_cmp_total, key_cmp_exact}
 use Rattle.ck_model.specs.Table.{Table, column}
-use Rattle.ck_model.proofs.Filesets.{all_found}
-use Rattle.ck_model.proofs.Rows.{row_of, find-row_of, is_sorted-row_of}
-use Rattle.ck_chain.specs.Following.{IsNext}
-use Rattle.ck_chain.proofs.KeyOrder.{is_behind}
+use Rattle.ck_model.specs.Rows.{row_of}
+use Rattle.ck_model.proofs.FilesetLaws.{all_found}
+use Rattle.ck_model.proofs.RowLaws.{find-row_of, is_sorted-row_of}
+use Rattle.ck_model.proofs.CaseLaws.{true_or_false}
+use Rattle.ck_chain.specs.Following.{IsNext, is_behind}
+use Rattle.ck_chain.proofs.FollowingLaws.{keys-row}
 use Rattle.ck_tree.specs.Removing.{is_block_from, blocks_from, deletions, deletion_at}
-use Rattle.ck_chain.proofs.FollowingLemmas.{keys-row, true_or_false}
 use Rattle.ck_tree.proofs.ListingLemmas.{left, left_next, none_before, none_left, Skips}
 
 -- the deletion of an entry, where it is of such a block

@@ -11,20 +11,20 @@ use Rattle.ck_model.specs.declared.cell.Payload.TheVariants as payload
 use Rattle.ck_model.specs.declared.change.Change.{Change}
 use Rattle.ck_model.specs.declared.change.Change.TheVariants.{Put, Write, Del}
 use Rattle.ck_model.specs.declared.held.Small.TheVariants.{File}
+use Rattle.ck_model.specs.declared.checkpoint.Counters.{Counters}
 use Rattle.ck_model.specs.Key.{key_cmp_total, key_cmp_exact, is_past}
 use Rattle.ck_model.specs.Cells.{Cells, size_at, with_cells}
 use Rattle.ck_model.specs.Changes.{cell_of, cut_block, cut_at, cut_to, resized}
 use Rattle.ck_model.specs.Table.{Table, column}
 use Rattle.ck_model.specs.Chain.{value_at}
-use Rattle.ck_model.proofs.CellsLemmas.{get-retain_keys}
-use Rattle.ck_model.proofs.ValuesOf.{is_among}
-use Rattle.ck_model.specs.declared.checkpoint.Counters.{Counters}
+use Rattle.ck_model.specs.Standing.{is_among}
+use Rattle.ck_model.proofs.CellLaws.{get-retain_keys}
 use Rattle.ck_chain.specs.Changes.{deletions_first, is_deletion, key_of}
+use Rattle.ck_chain.proofs.FollowingLaws.{among-passing}
 use Rattle.ck_tree.specs.Plan.{with_changes, Differ, MayBeMade}
 use Rattle.ck_tree.specs.Removing.{is_block_from, blocks_from, deletions}
 use Rattle.ck_tree.specs.Resizing.{first_past, cut_write, cut_changes, size_put, size_changes}
 use Rattle.ck_tree.specs.Standing.{StandsFor}
-use Rattle.ck_chain.proofs.FollowingLemmas.{among-passing}
 use Rattle.ck_tree.proofs.DeletionLemmas.{get-deletions, no_cell}
 
 -- ---- lists of changes
@@ -34,10 +34,6 @@ with_changes-append bytes stamp cells [] ys = refl
 with_changes-append bytes stamp cells (Put key small ∷ xs) ys = with_changes-append bytes stamp (map.insert cells key _) xs ys
 with_changes-append bytes stamp cells (Write node index block ∷ xs) ys = with_changes-append bytes stamp (map.insert cells (Block node index) _) xs ys
 with_changes-append bytes stamp cells (Del key ∷ xs) ys = with_changes-append bytes stamp (map.remove cells key) xs ys
-
-pub deletions_then : (keys : List Key) (ys : List Change) → deletions_first ys ≡ true → deletions_first (deletions keys ++ ys) ≡ true
-deletions_then [] ys h = h
-deletions_then (key ∷ keys) ys h = deletions_then keys ys h
 
 -- one more change, of another key
 pub differ-push : (xs : List Change) (x : Change) → Differ xs → All (λ other. key_of other ≢ key_of x) xs → Differ (xs ++ x ∷ [])

@@ -18,7 +18,7 @@ use Rattle.ck_model.specs.declared.held.Small.TheVariants.{File}
 use Rattle.ck_model.specs.Key.{key_cmp, key_cmp_total, key_cmp_exact}
 use Rattle.ck_model.specs.Cells.{Cells, size_at, with_cells}
 use Rattle.ck_model.specs.Changes.{cell_of, touched, grown_to, block_after, written}
-use Rattle.ck_model.proofs.CellsLemmas.{tied-is, get-with_cells}
+use Rattle.ck_model.proofs.CellLaws.{tied-is, get-with_cells}
 use Rattle.ck_chain.specs.Changes.{deletions_first, is_deletion, key_of}
 use Rattle.ck_tree.specs.Plan.{with_changes, Differ}
 use Rattle.ck_tree.specs.Writing.{grown_put, block_writes}

@@ -1,21 +1,17 @@
 -- What a call that changes files is to change of the primary.
-use Rattle.std.specs.Prelude.{◌≡◌, ◌≢◌, ◌≤◌, ◌+◌, ◌%◌, ◌⊎◌, ⊤, ℕ, true, List, [], ◌∷◌, length, All, Option, Some, None, IfSome, IsSome, Result, Ok, Err, replicate}
-use Rattle.std.specs.FinMap as map
-use Rattle.ck_model.specs.declared.key.Key.{Key}
+use Rattle.std.specs.Prelude.{◌≡◌, ◌≢◌, ◌≤◌, ◌+◌, ◌%◌, ◌⊎◌, ⊤, ℕ, true, List, [], ◌∷◌, length, All, Option, Some, None, IfSome, IsSome, Ok, Err, replicate}
 use Rattle.ck_model.specs.declared.cell.Cell.{Cell}
 use Rattle.ck_model.specs.declared.cell.Payload.TheVariants.{File, Dir, Bytes}
 use Rattle.ck_model.specs.declared.call.Call.{Call}
-use Rattle.ck_model.specs.declared.call.Call.TheVariants.{Make, Mkdir, Rm, Rmdir, Mv, Write, Fill, Trunc}
+use Rattle.ck_model.specs.declared.call.Call.TheVariants.{Make, Mkdir, Write, Fill, Trunc}
 use Rattle.ck_model.specs.declared.held.Small.{Small}
 use Rattle.ck_model.specs.declared.held.Small.TheVariants as small
 use Rattle.ck_model.specs.declared.change.Change.{Change}
 use Rattle.ck_model.specs.declared.change.Change.TheVariants as change
 use Rattle.ck_model.specs.declared.checkpoint.Counters.{Counters}
-use Rattle.ck_model.specs.declared.reply.Reply.{Reply}
-use Rattle.ck_model.specs.declared.reply.Reply.TheVariants as reply
-use Rattle.ck_model.specs.Cells.{Cells}
+use Rattle.ck_model.specs.Cells.{Cells, set_cell}
 use Rattle.ck_model.specs.Changes.{cell_of, block_after, cut_block}
-use Rattle.ck_model.specs.Changing.{made, removed, removed_directory, moved, overwritten, truncated, file_limit}
+use Rattle.ck_model.specs.Changing.{changed_by}
 use Rattle.ck_model.specs.Held.{IsKey, IsEntry, IsStamp}
 use Rattle.ck_model.specs.Rules.{KeyBelow, HeldBelow}
 use Rattle.ck_model.specs.Table.{Table, column}
@@ -28,30 +24,6 @@ use Rattle.ck_tree.specs.Faults.{reply_of}
 use Rattle.ck_tree.specs.Standing.{StandsFor}
 
 -- ---- what the model says of a call
-
--- a call that changes files, whose places and sizes are within the limit of a file's size
-abbrev pub IsChanging : Call → Type 0
-IsChanging (Make path) = ⊤
-IsChanging (Mkdir path) = ⊤
-IsChanging (Rm path) = ⊤
-IsChanging (Rmdir path) = ⊤
-IsChanging (Mv path new_path) = ⊤
-IsChanging (Write path place bytes) = place ≤ file_limit
-IsChanging (Fill path place len byte) = place ≤ file_limit
-IsChanging (Trunc path size) = size ≤ file_limit
-IsChanging _ = ⊥
-
--- the first refusal, or the world after the call where there is room; no other call is asked for
-abbrev pub changed_by : World → Call → Result World Reply
-changed_by w (Make path) = made w path (File 0)
-changed_by w (Mkdir path) = made w path Dir
-changed_by w (Rm path) = removed w path
-changed_by w (Rmdir path) = removed_directory w path
-changed_by w (Mv path new_path) = moved w path new_path
-changed_by w (Write path place bytes) = overwritten w path place bytes
-changed_by w (Fill path place len byte) = overwritten w path place (replicate len byte)
-changed_by w (Trunc path size) = truncated w path size
-changed_by w _ = Err reply.Done
 
 -- the bytes that a block of a file has after the call
 abbrev pub block_by : World → Call → ℕ → ℕ → List ℕ
@@ -73,10 +45,6 @@ abbrev pub cell_after : (ℕ → ℕ → List ℕ) → ℕ → Change → Option
 cell_after bytes stamp (change.Put key small) = Some (cell_of stamp (payload_of small))
 cell_after bytes stamp (change.Write node index block) = Some (cell_of stamp (Bytes (bytes node index)))
 cell_after bytes stamp (change.Del key) = None
-
-abbrev pub set_cell : Cells → Key → Option Cell → Cells
-set_cell cells key None = map.remove cells key
-set_cell cells key (Some cell) = map.insert cells key cell
 
 -- the map after these changes, one after the other
 abbrev pub with_changes : (ℕ → ℕ → List ℕ) → ℕ → Cells → List Change → Cells

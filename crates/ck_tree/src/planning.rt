@@ -1,10 +1,11 @@
 ghost use Rattle.std.specs.Prelude.{◌≡◌, ◌≤◌, ◌⊎◌, ◌^◌, ℕ, List, length, IfOk, IfErr, Ok, Err, nat_eq, if◌then◌else◌};
 ghost use Rattle.ck_model.specs.declared.call.Call.TheVariants as call;
 ghost use Rattle.ck_model.specs.declared.held.Small.TheVariants as small;
-ghost use Rattle.ck_model.specs.Changing.{file_limit};
+ghost use Rattle.ck_model.specs.Limits.{file_limit};
 ghost use Rattle.ck_model.specs.Rules.{IsOrderly};
 ghost use Rattle.ck_tree.specs.declared.fault.TreeFault.TheVariants as fault;
-ghost use Rattle.ck_tree.specs.Plan.{IsChanging, IsPlan, IsRefusal, making};
+ghost use Rattle.ck_tree.specs.Plan.{IsPlan, IsRefusal, making};
+ghost use Rattle.ck_model.specs.Changing.{IsChanging};
 
 use crate::drawing::draw;
 use crate::fault::TreeFault;
@@ -14,14 +15,11 @@ use crate::nodes::size_at;
 use crate::removing::delete_file;
 use crate::resizing::resize;
 use crate::writing::write_bytes;
-use ck_model::{Call, Change, Key, Meta, Path, Small};
+use ck_model::{Call, Change, FILE_LIMIT, Key, Meta, Path, Small};
 use std::alloc::Global;
 
 /// The stamp at which none is left.
 const LAST_STAMP: u64 = 1 << 63;
-
-/// The limit of a file's size.
-const FILE_LIMIT: u64 = 1_073_741_824;
 
 /// That a stamp is left.
 fn check_stamp<M: Meta>(meta: &M) -> Result<(), TreeFault>

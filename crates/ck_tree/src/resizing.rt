@@ -1,14 +1,11 @@
 ghost use Rattle.std.specs.Prelude.{◌≡◌, ◌≤◌, ◌++◌, IfOk, OnOk, [], if◌then◌else◌, nat_lt};
-ghost use Rattle.ck_model.specs.Changing.{file_limit};
+ghost use Rattle.ck_model.specs.Limits.{file_limit};
 ghost use Rattle.ck_tree.specs.Resizing.{cut_changes, cut_write, size_changes, size_put};
 
 use crate::removing::delete_blocks;
 use crate::value::held_at;
-use ck_model::{Change, Key, Meta, NoMemory, Small};
+use ck_model::{BLOCK, Change, Key, Meta, NoMemory, Small};
 use std::alloc::Global;
-
-/// The bytes of a block.
-pub const BLOCK: u64 = 4096;
 
 /// Writes the last block, where a size cuts it and the primary has it.
 fn cut_last<M: Meta>(

@@ -1,10 +1,9 @@
 ghost use Rattle.std.specs.Prelude.{◌≡◌, ◌≤◌, ◌<◌, ◌+◌, ◌-◌, ◌++◌, IfOk, OnOk};
 ghost use Rattle.std.specs.List.{range_with_len};
-ghost use Rattle.ck_model.specs.Changing.{file_limit};
+ghost use Rattle.ck_model.specs.Limits.{file_limit};
 ghost use Rattle.ck_tree.specs.Writing.{block_writes, grown_put, write_changes};
 
-use crate::resizing::BLOCK;
-use ck_model::{Change, Key, NoMemory, Small};
+use ck_model::{BLOCK, Change, Key, NoMemory, Small};
 use std::alloc::Global;
 
 /// Puts the node, if the file grows to this end, and writes the blocks from an index to another.

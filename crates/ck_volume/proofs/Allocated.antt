@@ -9,7 +9,7 @@ use Rattle.std.specs.FinMap as map
 use Rattle.std.specs.FinSet as set
 use Rattle.std.proofs.lemmas.Bool.Decides.{nat_tests}
 use Rattle.std.proofs.lemmas.Cmp.{nat_cmp_total, tied_itself}
-use Rattle.ck_model.proofs.ValuesOf.{tied_entry}
+use Rattle.ck_model.proofs.ValueLaws.{tied_entry}
 use mathlib.Core.Bool.{false≢true}
 use Rattle.ck_model.specs.declared.key.Key.{Key}
 use Rattle.ck_model.specs.declared.held.Held.{Held}
@@ -18,8 +18,8 @@ use Rattle.ck_model.specs.Key.{entry_cmp, entry_cmp_total, entry_cmp_exact}
 use Rattle.ck_model.specs.Table.{Table, column}
 use Rattle.ck_model.specs.Rules.{IsSound}
 use Rattle.ck_model.specs.Standing.{blocks_of, extents_of, extent_count}
-use Rattle.ck_model.proofs.Rows.{head_of}
-use Rattle.ck_model.proofs.Filesets.{not_below}
+use Rattle.ck_model.proofs.CaseLaws.{head_of}
+use Rattle.ck_model.proofs.FilesetLaws.{not_below}
 use Rattle.ck_alloc.specs.Blocks.{Allocation}
 use Rattle.ck_volume.specs.Allocating.{is_named, IsAllocated}
 use Rattle.ck_volume.specs.Placing.{AreDistinct}

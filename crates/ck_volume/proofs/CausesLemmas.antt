@@ -6,16 +6,8 @@ use Rattle.ck_model.specs.declared.entry.Entry.{Entry}
 use Rattle.ck_model.specs.declared.reply.Reply.{Reply}
 use Rattle.ck_model.specs.History.{is_write_fault}
 use Rattle.ck_volume.specs.Causes.{replies_of, HasCauses}
-use Rattle.ck_volume.specs.Engine.{HasCause, Runs, is_read_fault}
-
-pub runs-more : (old mid new : Meaning) → Runs old mid → Runs mid new → Runs old new
-runs-more old mid new first next = record {
-  size = next.size ∙ first.size;
-  tells = next.tells ∙ first.tells;
-  reads = omega (arith, first.reads, next.reads);
-  writes = omega (arith, first.writes, next.writes);
-  later = omega (arith, first.later, next.later);
-}
+use Rattle.ck_volume.specs.Engine.{HasCause, is_read_fault}
+use Rattle.ck_disk.specs.Runs.{Runs}
 
 replies-more : (is : Reply → Bool) (history : List Entry) (entry : Entry) → replies_of is (history ++ entry ∷ []) ≡ replies_of is history + (if is entry.reply then 1 else 0)
 replies-more is [] entry = omega arith
@@ -47,9 +39,6 @@ causes-still old mid new history causes runs = record {
 }
 
 -- ---- before the first entry
-
-pub runs-none : (m : Meaning) → Runs m m
-runs-none m = record { size = refl; tells = refl; reads = omega arith; writes = omega arith; later = omega arith }
 
 pub causes-none : (m : Meaning) → HasCauses m m []
 causes-none m = record { reads = omega arith; writes = omega arith }

@@ -19,14 +19,15 @@ use Rattle.ck_model.specs.Table.{Table, IsTable, record_count}
 use Rattle.ck_model.specs.Rules.{IsSound, KeyBelow, SmallBelow, HeldBelow, stamp_in, block_in}
 use Rattle.ck_model.specs.Values.{Store}
 use Rattle.ck_model.specs.Standing.{world_on}
-use Rattle.ck_model.proofs.Counted.{records_are}
+use Rattle.ck_model.proofs.CountLaws.{records_are}
 use Rattle.ck_push.specs.Growth.{gains, losses, write_count}
 use Rattle.ck_volume.specs.Plain.{IsOurs}
 use Rattle.ck_volume.specs.Room.{Grows, has_room, lack_of_room, answered_with}
-use Rattle.ck_volume.specs.Changing.{raised, IsRaised, changed_all, with_changes, MayChangeAll}
+use Rattle.ck_volume.specs.Changing.{raised, IsRaised, with_changes}
+use Rattle.ck_push.specs.Changes.{MayChangeAll, changed_all, AreMade}
 use Rattle.ck_volume.proofs.Worlds.{SameNamed, world_same}
 use Rattle.ck_volume.proofs.Rooms.{none_gone, room-is}
-use Rattle.ck_volume.proofs.ChangedLaws.{AreMade, are_made}
+use Rattle.ck_push.proofs.ChangeLaws.{are_made}
 use Rattle.ck_volume.proofs.WorldAfter.{world_changed_all}
 use Rattle.ck_volume.proofs.NewBlocks.{new-is}
 

@@ -14,7 +14,7 @@ use Rattle.ck_volume.specs.Allocating.{is_named, is_busy, IsAllocated, KeepsBusy
 use Rattle.ck_volume.specs.Committed.{Keeps, OpensToEither}
 use Rattle.ck_volume.specs.Device.{store_on}
 use Rattle.ck_volume.specs.Plain.{IsOurs}
-use Rattle.ck_volume.specs.Reading.{OnlyReads}
+use Rattle.ck_disk.specs.Runs.{OnlyReads}
 use Rattle.ck_volume.specs.Recovering.{Recovers}
 use Rattle.ck_volume.specs.Storing.{LeavesTorn, OnlyStores}
 use Rattle.ck_volume.proofs.Worlds.{world_same}
@@ -101,28 +101,6 @@ module _ (layout : Layout) (blocks : Allocation) (m : Meaning) (w : World) (keep
 
 -- ---- what a crash leaves of several calls
 
-pub leaves_start : (m : Meaning) (P : Image → Type 0) → Lawful m → ((c : Image) → m.may_leave c → P c) → LeavesOnly m m P
-leaves_start m P law all = record {
-  size = refl;
-  tells = refl;
-  reads = omega arith;
-  writes = omega arith;
-  later = omega arith;
-  each = λ c left. all c (law.only_now c left);
-  before = λ t c early left. inl left;
-}
-
-pub leaves_step : (old mid new : Meaning) (P : Image → Type 0) → LeavesOnly old mid P → Step mid new → ((c : Image) → new.may_leave c → P c) → LeavesOnly old new P
-leaves_step old mid new P ran step all = record {
-  size = step.size ∙ ran.size;
-  tells = step.tells ∙ ran.tells;
-  reads = omega (arith, step.reads, ran.reads);
-  writes = omega (arith, step.writes, ran.writes);
-  later = omega (arith, step.later, ran.later);
-  each = λ c left. ⊎_elim (λ (was : mid.left_since old.moment c). ran.each c was) (λ (now : new.may_leave c). all c now) (step.nothing_else old.moment c ran.later left);
-  before = λ t c early left. ⊎_elim (λ (was : mid.left_since t c). ran.before t c early was) (λ (now : new.may_leave c). inr (all c now)) (step.nothing_else t c (omega (arith, early, ran.later)) left);
-}
-
 -- data blocks stored in free places, where each image that they may leave has it
 pub leaves_stores : (base : ℕ) (blocks : Allocation) (old mid new : Meaning) (P : Image → Type 0) → LeavesOnly old mid P → OnlyStores base blocks mid new → ((c : Image) → LeavesTorn base blocks mid c → P c)
     → LeavesOnly old new P
@@ -134,22 +112,6 @@ leaves_stores base blocks old mid new P ran stores all = record {
   later = omega (arith, stores.later, ran.later);
   each = λ c left. ⊎_elim (λ (was : mid.left_since old.moment c). ran.each c was) (λ (now : LeavesTorn base blocks mid c). all c now) (stores.nothing_else old.moment c ran.later left);
   before = λ t c early left. ⊎_elim (λ (was : mid.left_since t c). ran.before t c early was) (λ (now : LeavesTorn base blocks mid c). inr (all c now)) (stores.nothing_else t c (omega (arith, early, ran.later)) left);
-}
-
--- the images now are among those
-pub leaves_now : (old new : Meaning) (P : Image → Type 0) → Lawful new → LeavesOnly old new P → (c : Image) → new.may_leave c → P c
-leaves_now old new P law ran c left = ran.each c (law.counts_now old.moment c ran.later left)
-
--- any that implies another
-pub leaves_more : (old new : Meaning) (P Q : Image → Type 0) → ((c : Image) → P c → Q c) → LeavesOnly old new P → LeavesOnly old new Q
-leaves_more old new P Q more ran = record {
-  size = ran.size;
-  tells = ran.tells;
-  reads = ran.reads;
-  writes = ran.writes;
-  later = ran.later;
-  each = λ c left. more c (ran.each c left);
-  before = λ t c early left. ⊎_elim (λ (was : old.left_since t c). inl was) (λ (p : P c). inr (more c p)) (ran.before t c early left);
 }
 
 -- ---- blocks once pending ones are settled

@@ -32,10 +32,11 @@ use Rattle.ck_model.specs.Table.{Table, IsTable, column, record_count, spare_cou
 use Rattle.ck_model.specs.Chain.{present, value_of, value_at, is_live, live_ids, as_mark, seen}
 use Rattle.ck_model.specs.Rules.{IsSound}
 use Rattle.ck_model.specs.Values.{Store, cell_on, cells_on}
-use Rattle.ck_model.specs.Standing.{values_of, checkpoint_on, checkpoints_on, checkpoint_limit, world_on, extents_of, extent_count}
-use Rattle.ck_model.proofs.Differences.{len-shown_differences}
-use Rattle.ck_model.proofs.Filesets.{all_found}
-use Rattle.ck_model.proofs.ValuesOf.{get-values_of}
+use Rattle.ck_model.specs.Standing.{values_of, checkpoint_on, checkpoints_on, world_on, extents_of, extent_count}
+use Rattle.ck_model.specs.Limits.{checkpoint_limit}
+use Rattle.ck_model.proofs.DifferenceLaws.{len-shown_differences}
+use Rattle.ck_model.proofs.FilesetLaws.{all_found}
+use Rattle.ck_model.proofs.ValueLaws.{get-values_of}
 use Rattle.ck_table.specs.declared.adding.AddFault.{AddFault}
 use Rattle.ck_table.specs.declared.adding.AddFault.TheVariants as fault
 use Rattle.ck_table.specs.Names.{id_named}

@@ -19,10 +19,11 @@ use Rattle.ck_volume.specs.Causes.{acknowledges, is_sync, is_done}
 use Rattle.ck_volume.specs.Closing.{broken_after, committed_after}
 use Rattle.ck_volume.specs.Committed.{OpensToEither}
 use Rattle.ck_volume.specs.Cuts.{LeavesCuts, OpensOnTheWay, KeepsOnTheWay, SurvivesOnTheWay}
-use Rattle.ck_volume.specs.Engine.{history_of, broken_of, length_of, world_of, KeepsWorld, Runs, Survives}
+use Rattle.ck_volume.specs.Engine.{history_of, broken_of, length_of, world_of, KeepsWorld, Survives}
+use Rattle.ck_disk.specs.Runs.{Runs}
 use Rattle.ck_volume.specs.Kept.{Stands}
 use Rattle.ck_volume.specs.Recovering.{Recovers}
-use Rattle.ck_volume.proofs.CommittedLemmas.{leaves_more}
+use Rattle.ck_disk.proofs.MomentLaws.{leaves_more}
 use Rattle.ck_volume.proofs.CutsLemmas.{Leaves, broken_or_not, cuts-unsynced, cuts-synced, cuts-uncommitted, cuts-committed}
 
 -- ---- which calls acknowledge

@@ -11,11 +11,12 @@ use Rattle.ck_model.specs.History.{CallsBy, state, Past}
 use Rattle.ck_volume.specs.declared.engine.Engine.{Engine}
 use Rattle.ck_volume.specs.Committed.{OpensToEither}
 use Rattle.ck_volume.specs.Cuts.{given_at, IsCut, OpensToCut, CutSince, CommitsCut, LeavesCuts, OpensOnTheWay, KeepsOnTheWay}
-use Rattle.ck_volume.specs.Engine.{history_of, broken_of, length_of, world_of, KeepsWorld, Runs, Survives}
+use Rattle.ck_volume.specs.Engine.{history_of, broken_of, length_of, world_of, KeepsWorld, Survives}
+use Rattle.ck_disk.specs.Runs.{Runs}
 use Rattle.ck_volume.specs.Kept.{Stands}
 use Rattle.ck_volume.specs.Recovering.{Recovers}
 use Rattle.ck_volume.specs.Told.{AreAnswered}
-use Rattle.ck_volume.proofs.CommittedLemmas.{leaves_more, leaves_now}
+use Rattle.ck_disk.proofs.MomentLaws.{leaves_more, leaves_now, leaves_both}
 use Rattle.ck_volume.proofs.KeptLaws.{kept-recovers}
 use Rattle.ck_volume.proofs.ToldLemmas.{answered-before}
 
@@ -102,22 +103,6 @@ pub stands-now : {D : Type 0} (origin now : Meaning) (told : List Call) (volume 
 stands-now origin now told volume is_told stands first found texts calls answered = ap (λ (past : Past). past.world) (stands is_told first found texts calls answered).1
 
 -- ---- runs
-
--- two runs one after the other
-pub leaves-both : (old mid new : Meaning) (P : Image → Type 0) → LeavesOnly old mid P → LeavesOnly mid new P → LeavesOnly old new P
-leaves-both old mid new P first second = record {
-  size = second.size ∙ first.size;
-  tells = second.tells ∙ first.tells;
-  reads = omega (arith, first.reads, second.reads);
-  writes = omega (arith, first.writes, second.writes);
-  later = omega (arith, first.later, second.later);
-  each = λ image left. ⊎_elim (λ (was : mid.left_since old.moment image). first.each image was) (λ (p : P image). p) (second.before old.moment image first.later left);
-  before = λ t image early left.
-      ⊎_elim
-      (λ (was : mid.left_since t image). first.before t image early was)
-      (λ (p : P image). inr p)
-      (second.before t image (omega (arith, early, first.later)) left);
-}
 
 -- a run of a device that tells nothing
 pub leaves-untold : (old now : Meaning) (T : Type 0) (P : Image → Type 0) → (T → ⊥) → Runs old now → LeavesOnly old now (λ image. T → P image)
@@ -260,7 +245,7 @@ module _ {D : Type 0} (origin mid new : Meaning) (law : Lawful new) (told : List
         })
         (λ (whole : broken_of before ≡ None).
         record {
-          any_moment = subst (λ (es : List Entry). LeavesOnly origin new (CutSince origin more es 0)) (sym added) (leaves-both origin mid new (CutSince origin more longer_by 0) before_it (running whole));
+          any_moment = subst (λ (es : List Entry). LeavesOnly origin new (CutSince origin more es 0)) (sym added) (leaves_both origin mid new (CutSince origin more longer_by 0) before_it (running whole));
           at_the_end = subst (λ (es : List Entry). (image : Image) → new.may_leave image → CutSince origin more es least image) (sym added) (unsynced_end whole);
           kept = unsynced_kept whole;
         })
@@ -276,7 +261,7 @@ module _ {D : Type 0} (origin mid new : Meaning) (law : Lawful new) (told : List
         let keeps : IsTrue origin.tells → KeepsWorld new after w =
         λ is_told. let kept = cuts.kept whole is_told in synced kept.world (told_mid is_told) kept.keeps in
         record {
-          any_moment = subst (λ (es : List Entry). LeavesOnly origin new (CutSince origin more es 0)) (sym added) (leaves-both origin mid new (CutSince origin more longer_by 0) before_it (running whole));
+          any_moment = subst (λ (es : List Entry). LeavesOnly origin new (CutSince origin more es 0)) (sym added) (leaves_both origin mid new (CutSince origin more longer_by 0) before_it (running whole));
           at_the_end = λ image left is_told. record { world = w; cut = cut is_told; recovers = kept-recovers new after w (keeps is_told) image left };
           kept = λ unbroken is_told. record { world = w; cut = cut is_told; keeps = keeps is_told };
         }
@@ -335,7 +320,7 @@ module _ {D : Type 0} (origin mid new : Meaning) (law : Lawful new) (told : List
         })
         (λ (whole : broken_of before ≡ None).
         record {
-          any_moment = subst (λ (es : List Entry). LeavesOnly origin new (CutSince origin told es 0)) (sym same) (leaves-both origin mid new (CutSince origin told history 0) cuts.any_moment (committing whole));
+          any_moment = subst (λ (es : List Entry). LeavesOnly origin new (CutSince origin told es 0)) (sym same) (leaves_both origin mid new (CutSince origin told history 0) cuts.any_moment (committing whole));
           at_the_end = subst (λ (es : List Entry). (image : Image) → new.may_leave image → CutSince origin told es least image) (sym same) (uncommitted_end whole);
           kept = uncommitted_kept whole;
         })
@@ -352,7 +337,7 @@ module _ {D : Type 0} (origin mid new : Meaning) (law : Lawful new) (told : List
         let kept = cuts.kept whole is_told in
         subst (λ (v : World). KeepsWorld new after (unmounted v)) (world (told_mid is_told)) (committed kept.world (told_mid is_told) kept.keeps) in
         record {
-          any_moment = subst (λ (es : List Entry). LeavesOnly origin new (CutSince origin told es 0)) (sym same) (leaves-both origin mid new (CutSince origin told history 0) cuts.any_moment (committing whole));
+          any_moment = subst (λ (es : List Entry). LeavesOnly origin new (CutSince origin told es 0)) (sym same) (leaves_both origin mid new (CutSince origin told history 0) cuts.any_moment (committing whole));
           at_the_end = λ image left is_told. record { world = w; cut = cut is_told; recovers = kept-recovers new after w (keeps is_told) image left };
           kept = λ unbroken is_told. record { world = w; cut = cut is_told; keeps = keeps is_told };
         }

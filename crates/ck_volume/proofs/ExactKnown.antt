@@ -10,7 +10,7 @@ use Rattle.ck_log.specs.Header.{Recovered, NotVolume, BadFormat, Opens}
 use Rattle.ck_log.specs.Images.{recovered_region, table_on}
 use Rattle.ck_area.specs.Area.{Area, AreSlots, IsReadAs, Blocks, table_of}
 use Rattle.ck_area.specs.Damage.{damage, is_unbuilt}
-use Rattle.ck_area.proofs.OneArea.{slots_unique}
+use Rattle.ck_area.proofs.AreaLaws.{slots_unique}
 use Rattle.ck_record.specs.declared.records.Record.{Record}
 use Rattle.ck_record.specs.declared.records.Record.TheVariants as record_of
 use Rattle.ck_record.specs.Record.{IsRecord}

@@ -4,7 +4,8 @@ use Rattle.std.specs.List.{list_any}
 use Rattle.std.specs.FinMap as map
 use Rattle.ck_model.specs.declared.checkpoint.Limits.{Limits}
 use Rattle.ck_model.specs.Table.{Table, Entries}
-use Rattle.ck_model.specs.Standing.{blocks_of, checkpoint_limit}
+use Rattle.ck_model.specs.Standing.{blocks_of}
+use Rattle.ck_model.specs.Limits.{checkpoint_limit}
 use Rattle.ck_alloc.specs.Blocks.{Allocation}
 use Rattle.ck_volume.specs.Allocating.{is_taken}
 use Rattle.ck_volume.specs.Files.{AreFiles}

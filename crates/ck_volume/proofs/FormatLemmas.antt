@@ -20,7 +20,8 @@ use Rattle.ck_volume.specs.Formatting.{new_world, IsFormatted}
 use Rattle.ck_volume.specs.Plain.{IsOurs, IsPlain}
 use Rattle.ck_volume.specs.Safe.{HoldsTable}
 use Rattle.ck_volume.specs.declared.engine.Engine.{Engine}
-use Rattle.ck_volume.specs.Engine.{history_of, table_of, mounts_of, blocks_of, layout_of, KeepsWorld, Runs}
+use Rattle.ck_volume.specs.Engine.{history_of, table_of, mounts_of, blocks_of, layout_of, KeepsWorld}
+use Rattle.ck_disk.specs.Runs.{Runs}
 use Rattle.ck_volume.proofs.SafeLemmas.{written-built, written-undamaged, written-table}
 use Rattle.ck_volume.proofs.OpenLemmas.{synced-safe}
 use Rattle.ck_volume.proofs.KeptLaws.{kept-exact}
@@ -29,10 +30,6 @@ use Rattle.ck_volume.proofs.KeptLaws.{kept-exact}
 pub plain_new : (blocks records : ℕ) (t : Table) → t ≡ new_table blocks records → IsPlain t
 plain_new blocks records t is id fileset has =
     absurd (false≢true (ap is_some (sym (map.get-empty nat_cmp id) ∙ ap (λ (x : Table). map.get x.filesets id) (sym is) ∙ has)))
-
--- a call that leaves these images runs
-pub runs_of : (old new : Meaning) (P : Image → Type 0) → LeavesOnly old new P → Runs old new
-runs_of old new P ran = record { size = ran.size; tells = ran.tells; reads = ran.reads; writes = ran.writes; later = ran.later }
 
 module _ {D : Type 0} (blocks records : ℕ) (old new : Meaning) (volume : Engine D) (new_law : Lawful new) (runs : Runs old new)
     (layout : layout_of volume ≡ new_layout blocks records) (new_is : table_of volume ≡ new_table (layout_of volume).blocks (layout_of volume).records) (ours : IsOurs (table_of volume)) (allocated : IsAllocated (table_of volume) (blocks_of volume))

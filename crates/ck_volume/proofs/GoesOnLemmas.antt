@@ -6,9 +6,10 @@ use Rattle.ck_alloc.specs.Blocks.{Allocation}
 use Rattle.ck_model.specs.World.{World}
 use Rattle.ck_volume.specs.Allocating.{KeepsBusy}
 use Rattle.ck_volume.specs.Committed.{Keeps, OpensToEither}
-use Rattle.ck_volume.specs.Reading.{OnlyReads}
+use Rattle.ck_disk.specs.Runs.{OnlyReads}
 use Rattle.ck_volume.specs.Storing.{OnlyStores}
-use Rattle.ck_volume.proofs.CommittedLemmas.{keeps-recovers, keeps-busy, keeps-stores, keeps-torn, keeps-reads, leaves_start, leaves_step, leaves_stores}
+use Rattle.ck_volume.proofs.CommittedLemmas.{keeps-recovers, keeps-busy, keeps-stores, keeps-torn, keeps-reads, leaves_stores}
+use Rattle.ck_disk.proofs.MomentLaws.{leaves_step, leaves_start}
 
 -- either of two worlds is kept
 abbrev pub KeepsEither : Layout → Allocation → Meaning → World → World → Type 0

@@ -4,7 +4,7 @@ use Rattle.std.specs.FinMap as map
 use Rattle.ck_disk.specs.Disk.{Image, Meaning}
 use Rattle.ck_log.specs.Header.{Recovered, NotVolume as NoVolume, BadFormat as BadHeader, Opens as OpensAt}
 use Rattle.ck_log.specs.Images.{recovered_region, table_on}
-use Rattle.ck_area.proofs.OneArea.{slots_unique}
+use Rattle.ck_area.proofs.AreaLaws.{slots_unique}
 use Rattle.ck_log.specs.Layout.{Layout, base_of}
 use Rattle.ck_alloc.specs.Blocks.{Allocation}
 use Rattle.ck_model.specs.World.{World}

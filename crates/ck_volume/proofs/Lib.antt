@@ -6,7 +6,6 @@ pub mod ReadingLemmas
 pub mod PatchLemmas
 pub mod Stands
 pub mod UseLemmas
-pub mod ChangedLaws
 pub mod Listed
 pub mod MountLemmas
 pub mod CreateLemmas

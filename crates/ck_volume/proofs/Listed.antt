@@ -14,7 +14,8 @@ use Rattle.ck_model.specs.Chain.{is_live, live_ids}
 use Rattle.ck_model.specs.Values.{Store}
 use Rattle.ck_model.specs.Reporting.{lines_of}
 use Rattle.ck_model.specs.Standing.{checkpoint_on, checkpoints_on}
-use Rattle.ck_model.proofs.Counted.{IsPlaced, ArePlaced, all_placed}
+use Rattle.ck_model.proofs.CountLaws.{all_placed}
+use Rattle.ck_model.specs.Placed.{IsPlaced, ArePlaced}
 use Rattle.ck_table.specs.Names as names
 use Rattle.ck_volume.specs.Telling.{line_on, standing_at, listed}
 

@@ -9,13 +9,14 @@ use Rattle.ck_chain.specs.Naming.{block_of, IsNamed}
 use Rattle.ck_chain.specs.Changes.{deletions_first, is_deletion, key_of, value_after}
 use Rattle.ck_push.specs.Changed.{changed}
 use Rattle.ck_push.specs.Growth.{gain, loss, gains, losses, growth, one_if, absent_goes}
-use Rattle.ck_push.proofs.RoomLaws.{deletion_grows}
+use Rattle.ck_push.proofs.RoomLaws.{room_after}
 use Rattle.ck_alloc.specs.Blocks.{Allocation}
 use Rattle.ck_volume.specs.Plain.{IsOurs}
 use Rattle.ck_volume.specs.Allocating.{is_named, is_taken, AreUnnamed, IsAllocatedBut, blocks_held}
-use Rattle.ck_volume.specs.Changing.{MayChange, MayChangeAll, written_by}
+use Rattle.ck_volume.specs.Changing.{written_by}
+use Rattle.ck_push.specs.Changes.{MayChangeAll, MayChange}
 use Rattle.ck_volume.proofs.UseLemmas.{is-named, block_held, any_append, one_or, true_false}
-use Rattle.ck_volume.proofs.ChangedLaws.{counted_after, may_all_after, gains_stay, losses_stay}
+use Rattle.ck_push.proofs.ChangeLaws.{counted_after, may_all_after, gains_stay, losses_stay}
 
 -- the changes that are left may be made, and there is room for them
 pub record MayMake (t : Table) (blocks : Allocation) (items : List Change) (stamp : ℕ) : Type 0 where
@@ -25,51 +26,9 @@ pub record MayMake (t : Table) (blocks : Allocation) (items : List Change) (stam
   pub may : MayChangeAll t items stamp
   pub allocated : IsAllocatedBut (written_by items stamp) t blocks
 
-no_losses : (t : Table) (items : List Change) → list_any is_deletion items ≡ false → losses t items ≡ 0
-no_losses t [] h = refl
-no_losses t (item ∷ items) h =
-    elim (is_deletion item) as (λ b. (b || list_any is_deletion items) ≡ false → one_if b + one_if (b && absent_goes t (key_of item) (newest_live_of t)) + losses t items ≡ 0) [
-      | true ↦ λ clash. cc
-      | false ↦ λ rest. let none = no_losses t items rest in omega arith
-    ] h
-
 both : (a b : Bool) → (a && b) ≡ true → (a ≡ true) × (b ≡ true)
 both true b h = (refl, h)
 both false b h = cc
-
-not_true : (b : Bool) → not b ≡ true → b ≡ false
-not_true true h = cc
-not_true false h = refl
-
--- a change that is no deletion takes none away
-no_loss : (t : Table) (item : Change) → is_deletion item ≡ false → loss t item ≡ 0
-no_loss t item h = ap (λ b. one_if b + one_if (b && absent_goes t (key_of item) (newest_live_of t))) h
-
--- the first one has room
-pub room_first : (t : Table) (item : Change) (items : List Change) → deletions_first (item ∷ items) ≡ true → gains t (item ∷ items) - losses t (item ∷ items) ≤ spare_count t → growth t item ≤ spare_count t
-room_first t item items first room =
-    elim (is_deletion item) as (λ b. is_deletion item ≡ b → growth t item ≤ spare_count t) [
-      | true ↦ λ is. let none = deletion_grows t item is in omega (arith, none)
-      | false ↦ λ is.
-          let left : not (list_any is_deletion items) ≡ true = sym (ap (λ b. b || not (list_any is_deletion items)) is) ∙ (both (is_deletion item || not (list_any is_deletion items)) (deletions_first items) first).0 in
-          let none = no_losses t items (not_true (list_any is_deletion items) left) in
-          let here = no_loss t item is in
-          omega (arith, room, none, here)
-    ] refl
-
--- and the others have room then
-room_after : (t u : Table) (item : Change) (items : List Change) → deletions_first (item ∷ items) ≡ true → gains t (item ∷ items) - losses t (item ∷ items) ≤ spare_count t
-    → record_count t ≤ t.records → record_count u ≤ u.records → u.records ≡ t.records → record_count u + loss t item ≡ record_count t + gain t item
-    → gains u items ≡ gains t items → losses u items ≡ losses t items → gains u items - losses u items ≤ spare_count u
-room_after t u item items first room fits fits_after limit counted same_gains same_losses =
-    elim (is_deletion item) as (λ b. is_deletion item ≡ b → gains u items - losses u items ≤ spare_count u) [
-      | true ↦ λ is. let less : gain t item - loss t item ≡ 0 = deletion_grows t item is in omega (arith, room, fits, fits_after, limit, counted, same_gains, same_losses, less)
-      | false ↦ λ is.
-          let left : not (list_any is_deletion items) ≡ true = sym (ap (λ b. b || not (list_any is_deletion items)) is) ∙ (both (is_deletion item || not (list_any is_deletion items)) (deletions_first items) first).0 in
-          let none = no_losses t items (not_true (list_any is_deletion items) left) in
-          let here = no_loss t item is in
-          omega (arith, room, fits, fits_after, limit, counted, same_gains, same_losses, none, here)
-    ] refl
 
 -- no entry names a block that they write
 unnamed_block : (t : Table) (item : Change) (stamp : ℕ) → MayChange t item stamp → (block : ℕ) → is_taken (blocks_held (value_after item stamp)) block ≡ true → is_named t block ≡ false

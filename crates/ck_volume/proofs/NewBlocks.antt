@@ -18,18 +18,19 @@ use Rattle.ck_model.specs.declared.change.Change.{Change}
 use Rattle.ck_model.specs.declared.change.Change.TheVariants.{Put, Write, Del}
 use Rattle.ck_model.specs.Key.{key_cmp, key_cmp_total, key_cmp_exact, is_block}
 use Rattle.ck_model.specs.Held.{BelongsTo}
-use Rattle.ck_model.specs.Cells.{Cells}
+use Rattle.ck_model.specs.Cells.{Cells, set_cell}
 use Rattle.ck_model.specs.Space.{new_block_count, is_new_block}
 use Rattle.ck_model.specs.Table.{Table, column}
 use Rattle.ck_model.specs.Chain.{present}
 use Rattle.ck_model.specs.Rules.{IsSound, stamp_in}
 use Rattle.ck_model.specs.Values.{Store, cell_on, cells_on}
 use Rattle.ck_model.specs.Standing.{values_of}
-use Rattle.ck_model.proofs.Sizes.{len_same_keys, contains_key-retain_keys}
+use Rattle.ck_model.proofs.SizeLaws.{len_same_keys, contains_key-retain_keys}
 use Rattle.ck_chain.specs.Changes.{key_of, is_write, value_after}
-use Rattle.ck_chain.proofs.Columns.{same_or_other}
+use Rattle.ck_chain.proofs.ColumnLaws.{same_or_other}
 use Rattle.ck_push.specs.Growth.{one_if, write_count}
-use Rattle.ck_volume.specs.Changing.{set_cell, with_change, with_changes, MayChange, AllApart, MayChangeAll}
+use Rattle.ck_volume.specs.Changing.{with_change, with_changes}
+use Rattle.ck_push.specs.Changes.{MayChangeAll, AllApart, MayChange}
 use Rattle.ck_volume.proofs.WorldAfter.{get-set_cell, get-primary}
 
 -- the blocks of a map with this stamp

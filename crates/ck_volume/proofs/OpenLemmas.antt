@@ -11,11 +11,12 @@ use Rattle.ck_volume.proofs.UseLemmas.{is-named, extent_is}
 use mathlib.Core.Bool.{false≢true}
 use Rattle.std.specs.FinMap as map
 use Rattle.std.specs.FinSet as set
+use Rattle.ck_disk.proofs.RunLaws.{leaves_on}
 use Rattle.ck_disk.specs.Disk.{Image, Meaning, Lawful, IsClean, IsSynced, LeavesOnly, Rose}
 use Rattle.ck_log.specs.Layout.{Layout, base_of, size_of}
 use Rattle.ck_log.specs.Header.{Opens as OpensAt}
 use Rattle.ck_log.specs.Images.{recovered_region, Settled}
-use Rattle.ck_log.proofs.Recovery.{recovered_region-agrees, table_on-agrees, area_of-settled, settled-keeps}
+use Rattle.ck_log.proofs.RecoveryLaws.{recovered_region-agrees, table_on-agrees, area_of-settled, settled-keeps}
 use Rattle.ck_model.specs.World.{keeps_files}
 use Rattle.ck_model.specs.Table.{Table}
 use Rattle.ck_model.specs.Rules.{IsSound}
@@ -28,13 +29,13 @@ use Rattle.ck_volume.specs.Opening.{IsOpened, IsFound, IsOpenFault}
 use Rattle.ck_volume.specs.declared.open.OpenFault.{OpenFault}
 use Rattle.ck_volume.specs.declared.open.OpenFault.TheVariants as fault
 use Rattle.ck_volume.specs.Plain.{IsOurs, IsPlain}
-use Rattle.ck_volume.specs.Reading.{OnlyReads}
+use Rattle.ck_disk.specs.Runs.{OnlyReads}
 use Rattle.ck_volume.specs.Recovering.{Recovery, NotVolume, BadFormat, Damaged, Finds, Recovers}
 use Rattle.ck_volume.specs.Safe.{HoldsTable, IsSafe}
 use Rattle.ck_volume.specs.declared.engine.Engine.{Engine}
 use Rattle.ck_volume.specs.Engine.{history_of, table_of, mounts_of, blocks_of, layout_of, world_of}
 use Rattle.ck_volume.proofs.SafeLemmas.{holds-recovers}
-use Rattle.ck_volume.proofs.CommittedLemmas.{leaves_start, leaves_step, leaves_now}
+use Rattle.ck_disk.proofs.MomentLaws.{leaves_now, leaves_step, leaves_start}
 
 -- where no write stands on the device, what its reads have each image has
 pub synced-safe : (layout : Layout) (t : Table) (m : Meaning) → Lawful m → IsTrue m.tells → IsSynced m → HoldsTable layout t m.shows → IsSafe layout t m
@@ -163,19 +164,6 @@ if_ok_both P Q R (Ok x) f p q = f x p q
 if_ok_both P Q R (Err e) f p q = tt
 
 -- ---- an opening after the region's
-
-pub leaves_on : (old mid new : Meaning) → Lawful mid → LeavesOnly old mid old.may_leave → LeavesOnly mid new mid.may_leave → LeavesOnly old new old.may_leave
-leaves_on old mid new law first second =
-    let among : (c : Image) → mid.may_leave c → old.may_leave c = leaves_now old mid old.may_leave law first in
-    record {
-      size = second.size ∙ first.size;
-      tells = second.tells ∙ first.tells;
-      reads = omega (arith, first.reads, second.reads);
-      writes = omega (arith, first.writes, second.writes);
-      later = omega (arith, first.later, second.later);
-      each = λ c left. ⊎_elim (λ (was : mid.left_since old.moment c). first.each c was) (λ (now : mid.may_leave c). among c now) (second.before old.moment c first.later left);
-      before = λ t c early left. ⊎_elim (λ (was : mid.left_since t c). first.before t c early was) (λ (now : mid.may_leave c). inr (among c now)) (second.before t c (omega (arith, early, first.later)) left);
-    }
 
 module _ (old mid : Meaning) (law : Lawful mid) (shows : mid.shows ≡ old.shows) (first : LeavesOnly old mid old.may_leave) where
   told_on : IsTrue old.tells → IsTrue mid.tells

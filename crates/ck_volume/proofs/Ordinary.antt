@@ -8,9 +8,9 @@ use Rattle.ck_model.specs.Streams.{Texts}
 use Rattle.ck_model.specs.Step.{Outcome, step}
 use Rattle.ck_model.specs.History.{is_fault}
 use Rattle.ck_model.specs.Walk.{file_at}
-use Rattle.ck_model.proofs.RefusalsLemmas.{OrOrdinary}
-use Rattle.ck_model.proofs.WalkLemmas.{file_at-ordinary}
-use Rattle.ck_model.proofs.StepLemmas.{step-sound}
+use Rattle.ck_model.specs.Ordinary.{OrOrdinary}
+use Rattle.ck_model.proofs.WalkLaws.{file_at-ordinary}
+use Rattle.ck_model.proofs.StepLaws.{step-no_fault}
 use Rattle.ck_model.specs.Values.{Store, Values, cells_on}
 use Rattle.ck_volume.specs.Room.{answered_with}
 
@@ -22,7 +22,7 @@ no_texts = record { full = λ id items. []; changes = λ first second items. [] 
 
 -- what a step answers is no fault
 pub stepped-ordinary : (w next : World) (actor at : ℕ) (call : Call) (reply : Reply) → step no_texts w actor at call ≡ answered_with reply next → is_fault reply ≡ false
-stepped-ordinary w next actor at call reply is = ap (λ (o : Outcome). is_fault o.reply) (sym is) ∙ (step-sound no_texts w actor at call).no_fault
+stepped-ordinary w next actor at call reply is = ap (λ (o : Outcome). is_fault o.reply) (sym is) ∙ step-no_fault no_texts w actor at call
 
 pub refused-ordinary : (values : Values) (path : List (List ℕ)) (r : Result ℕ Reply) (reply : Reply) → r ≡ file_at (cells_on no_store values) path → r ≡ Err reply → is_fault reply ≡ false
 refused-ordinary values path r reply is refused =

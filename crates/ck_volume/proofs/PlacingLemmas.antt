@@ -24,7 +24,8 @@ use Rattle.ck_model.specs.declared.reply.SpaceOf.TheVariants.{Blocks, Records}
 use Rattle.ck_model.specs.History.{is_fault}
 use Rattle.ck_model.specs.Cells.{Cells}
 use Rattle.ck_model.specs.Changes.{cell_of, with_node, without_file, without_directory, renamed, written, resized}
-use Rattle.ck_model.specs.Changing.{is_spent, has_names, with_primary, file_limit}
+use Rattle.ck_model.specs.Changing.{is_spent, has_names, with_primary, changed_by}
+use Rattle.ck_model.specs.Limits.{file_limit}
 use Rattle.ck_model.specs.Held.{IsCounters}
 use Rattle.ck_model.specs.Refusals.{and_then, refuse_if}
 use Rattle.ck_model.specs.Rules.{IsSound, stamp_in}
@@ -41,14 +42,15 @@ use Rattle.ck_push.specs.Growth.{gain, gains, loss, losses, one_if, write_count}
 use Rattle.ck_tree.specs.declared.fault.TreeFault.{TreeFault}
 use Rattle.ck_tree.specs.declared.fault.TreeFault.TheVariants.{NotFound, NotDir, IsDir as IsDirectory, Exists as Existing, NotEmpty as NotEmptied, Root as AtRoot, TooBig as TooLong, Spent as AllSpent, NoMemory}
 use Rattle.ck_tree.specs.Faults.{reply_of}
-use Rattle.ck_tree.specs.Plan.{IsPlan, IsRefusal, Differ, MayBeMade, changed_by, block_by, numbers_after, world_after, with_changes as planned_cells}
+use Rattle.ck_tree.specs.Plan.{IsPlan, IsRefusal, Differ, MayBeMade, block_by, numbers_after, world_after, with_changes as planned_cells}
 use Rattle.ck_alloc.specs.Blocks.{Allocation}
 use Rattle.ck_volume.specs.Allocating.{is_named, is_taken, IsAllocatedBut}
-use Rattle.ck_volume.specs.Changing.{raised, IsRaised, changed_all, with_changes, MayChange, AllApart, MayChangeAll, written_by}
+use Rattle.ck_volume.specs.Changing.{raised, IsRaised, with_changes, written_by}
+use Rattle.ck_push.specs.Changes.{MayChangeAll, AllApart, MayChange, changed_all}
 use Rattle.ck_volume.specs.Placing.{with_places, AreDistinct, ArePlaced, AreHeld}
 use Rattle.ck_volume.specs.Plain.{IsOurs}
 use Rattle.ck_volume.specs.Room.{has_room, lack_of_room, answered_with}
-use Rattle.ck_volume.proofs.Stands.{stands}
+use Rattle.ck_tree.proofs.StandingLaws.{stands_on as stands}
 use Rattle.ck_volume.proofs.Worlds.{SameNamed}
 use Rattle.ck_volume.proofs.UseLemmas.{extent_is, is-named, named-is}
 use Rattle.ck_volume.proofs.ChangingLemmas.{changing-full, changing-fits}

@@ -16,12 +16,14 @@ use Rattle.ck_model.specs.Reading.{file_byte}
 use Rattle.ck_model.specs.Values.{Store, Values, cells_on}
 use Rattle.ck_model.specs.Rules.{block_in}
 use Rattle.ck_volume.specs.Device.{store_on}
-use Rattle.ck_volume.specs.Reading.{bytes_of, part_of, IsFilled, OnlyReads}
+use Rattle.ck_volume.specs.Reading.{bytes_of, part_of, IsFilled}
+use Rattle.ck_disk.specs.Runs.{OnlyReads}
 use Rattle.ck_model.specs.Cells.{Content}
 use Rattle.ck_model.specs.declared.cell.Cell.{Cell}
 use Rattle.std.specs.Option.{option_map}
+use Rattle.ck_disk.proofs.RunLaws.{step_after}
 use Rattle.ck_model.specs.Values.{cell_on}
-use Rattle.ck_model.proofs.ValuesOf.{get-cells_on}
+use Rattle.ck_model.proofs.ValueLaws.{get-cells_on}
 
 -- a cell's content over these data blocks
 abbrev pub content_on : Store → Option Held → Content
@@ -29,41 +31,6 @@ content_on store held = option_and_then (λ (cell : Cell). cell.payload) (option
 
 pub content-cells_on : (store : Store) (values : Values) (key : Key) → content_at (cells_on store values) key ≡ content_on store (map.get values key)
 content-cells_on store values key = ap (option_and_then (λ (cell : Cell). cell.payload)) (get-cells_on store values key)
-
--- no read
-pub step_itself : (m : Meaning) → Step m m
-step_itself m = record {
-  size = refl;
-  tells = refl;
-  reads = omega arith;
-  writes = omega arith;
-  later = omega arith;
-  nothing_else = λ t c le left. inl left;
-  keeps = λ t c le left. left;
-}
-
--- two calls in a row, of which the first lets no crash leave more than before
-pub step_after : (old mid new : Meaning) → Lawful old → Within mid.may_leave old.may_leave → Step old mid → Step mid new → Step old new
-step_after old mid new law within first second = record {
-  size = second.size ∙ first.size;
-  tells = second.tells ∙ first.tells;
-  reads = omega (arith, first.reads, second.reads);
-  writes = omega (arith, first.writes, second.writes);
-  later = omega (arith, first.later, second.later);
-  nothing_else = λ t c le left. ⊎_elim
-      (λ was. ⊎_elim (λ before. inl before) (λ may. inl (law.counts_now t c le (within c may))) (first.nothing_else t c le was))
-      (λ may. inr may)
-      (second.nothing_else t c (omega (arith, le, first.later)) left);
-  keeps = λ t c le left. second.keeps t c (omega (arith, le, first.later)) (first.keeps t c le left);
-}
-
-pub reads_on : (old mid new : Meaning) → Lawful old → OnlyReads old mid → OnlyReads mid new → OnlyReads old new
-reads_on old mid new law first second = record {
-  shows = second.shows ∙ first.shows;
-  crash = λ c left. first.crash c (second.crash c left);
-  marks = λ k clean. second.marks k (first.marks k clean);
-  step = step_after old mid new law first.crash first.step second.step;
-}
 
 -- the bytes of a cell
 pub bytes-cells_on : (store : Store) (values : Values) (key : Key) → bytes_in (content_at (cells_on store values) key) ≡ bytes_of store (option_and_then block_in (map.get values key))

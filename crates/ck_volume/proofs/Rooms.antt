@@ -18,8 +18,9 @@ use Rattle.ck_model.specs.Table.{Table, IsTable, record_count}
 use Rattle.ck_model.specs.Rules.{IsSound}
 use Rattle.ck_model.specs.Values.{Store}
 use Rattle.ck_model.specs.Standing.{checkpoint_on, checkpoints_on, world_on, extent_count}
-use Rattle.ck_model.proofs.Filesets.{all_found}
-use Rattle.ck_model.proofs.Counted.{NoneGone, AllStripped, records_are, extents_are, live_all}
+use Rattle.ck_model.proofs.FilesetLaws.{all_found}
+use Rattle.ck_model.proofs.CountLaws.{records_are, extents_are, live_all}
+use Rattle.ck_model.specs.Placed.{NoneGone, AllStripped}
 use Rattle.ck_volume.specs.Plain.{IsPlain, IsOurs}
 use Rattle.ck_volume.specs.Room.{Grows, has_room, lack_of_room, answered_with}
 use Rattle.ck_volume.proofs.Checkpoints.{keeps_itself}

@@ -6,18 +6,18 @@ use Rattle.ck_disk.specs.Disk.{Image, Meaning, Agrees, Outside, Lawful, LeavesOn
 use Rattle.ck_log.specs.Layout.{Layout, table_blocks, base_of}
 use Rattle.ck_log.specs.Header.{Opens as OpensAt}
 use Rattle.ck_log.specs.Images.{recovered_region, table_on, names_second, HasBefore, HasAfter, Settled, CommitLeaves}
-use Rattle.ck_log.proofs.Areas.{area_low, area_high}
-use Rattle.ck_log.proofs.Recovery.{recovered_region-set, table_on-set, recovered_region-gate, recovered_region-settled}
+use Rattle.ck_log.proofs.AreaLaws.{area_low, area_high}
+use Rattle.ck_log.proofs.RecoveryLaws.{recovered_region-set, table_on-set, recovered_region-gate, recovered_region-settled}
 use Rattle.ck_alloc.specs.Blocks.{Allocation, IsFree}
 use Rattle.ck_model.specs.Table.{Table}
 use Rattle.ck_model.specs.Standing.{world_on}
 use Rattle.ck_area.specs.Area.{Area, AreSlots, table_of, written_as}
 use Rattle.ck_area.specs.Damage.{damage, is_unbuilt}
-use Rattle.ck_area.proofs.WrittenLemmas.{read_again, undamaged_written, built_written}
+use Rattle.ck_area.proofs.WrittenLaws.{read_again, undamaged_written, built_written}
 use Rattle.ck_volume.specs.Allocating.{is_named, is_busy}
 use Rattle.ck_volume.specs.Device.{store_on}
 use Rattle.ck_volume.specs.Plain.{IsOurs}
-use Rattle.ck_volume.specs.Reading.{OnlyReads}
+use Rattle.ck_disk.specs.Runs.{OnlyReads}
 use Rattle.ck_volume.specs.Recovering.{Opens, BadFormat, world_in, unless_damaged, recovery_of, FindsBy, Recovers}
 use Rattle.ck_volume.specs.Safe.{IsNamedAt, HoldsTable, IsSafe}
 use Rattle.ck_volume.specs.Storing.{StoredOrSame, LeavesTorn, OnlyStores}

@@ -1,40 +1,13 @@
 -- The map that a fileset stands for over data blocks, as paths and files are looked up in it.
-use Rattle.std.proofs.Common.{◌≡◌, ℕ, ◌<◌, Option, Some, None, is_some, refl, ap, subst, ◌∙◌}
-use Rattle.std.specs.Option.{option_map, option_and_then, ForSome}
+use Rattle.std.proofs.Common.{◌≡◌, ℕ, ◌<◌, Option, Some, None, subst}
+use Rattle.std.specs.Option.{option_and_then, ForSome}
 use Rattle.ck_model.specs.declared.key.Key.{Key}
-use Rattle.ck_model.specs.declared.cell.Cell.{Cell}
 use Rattle.ck_model.specs.declared.held.Held.{Held}
 use Rattle.ck_model.specs.declared.held.Held.TheVariants.{Absent, Plain, Extent, Mark}
-use Rattle.ck_model.specs.declared.held.Small.TheVariants.{To, File, Dir}
 use Rattle.ck_model.specs.Table.{Table}
 use Rattle.ck_model.specs.Chain.{value_at}
 use Rattle.ck_model.specs.Rules.{IsSound, block_in}
-use Rattle.ck_model.specs.Values.{Store, cell_on, cells_on}
-use Rattle.ck_model.specs.Standing.{values_of}
-use Rattle.ck_model.proofs.ValuesOf.{get-values_of, get-cells_on}
-use Rattle.ck_model.specs.Values.{payload_of}
-use Rattle.ck_tree.specs.Standing.{StandsFor, small_in, without_bytes}
 use Rattle.ck_volume.proofs.Worlds.{value_column}
-
-some_mapped : {X Y : Type 0} (f : X → Y) (o : Option X) → is_some (option_map f o) ≡ is_some o
-some_mapped f None = refl
-some_mapped f (Some x) = refl
-
-small_same : (store : Store) (o : Option Held) → without_bytes (option_and_then (λ (cell : Cell). cell.payload) (option_map (cell_on store) o)) ≡ option_map payload_of (small_in o)
-small_same store None = refl
-small_same store (Some Absent) = refl
-small_same store (Some (Plain s (To node))) = refl
-small_same store (Some (Plain s (File size))) = refl
-small_same store (Some (Plain s Dir)) = refl
-small_same store (Some (Extent s block)) = refl
-small_same store (Some (Mark s)) = refl
-
--- a fileset stands for its cells over any data blocks
-pub stands : (store : Store) (t : Table) (fs : ℕ) → StandsFor t fs (cells_on store (values_of t fs))
-stands store t fs = record {
-  present = λ key. ap is_some (get-cells_on store (values_of t fs) key ∙ ap (option_map (cell_on store)) (get-values_of t fs key)) ∙ some_mapped (cell_on store) (value_at t fs key);
-  small = λ key. ap (λ o. without_bytes (option_and_then (λ (cell : Cell). cell.payload) o)) (get-cells_on store (values_of t fs) key ∙ ap (option_map (cell_on store)) (get-values_of t fs key)) ∙ small_same store (value_at t fs key);
-}
 
 -- the data block of a value is below the number of data blocks
 pub value_below : (t : Table) → IsSound t → (fs : ℕ) (key : Key) (o : Option Held) → value_at t fs key ≡ o → ForSome (option_and_then block_in o) (λ block. block < t.blocks)

@@ -5,7 +5,7 @@ use Rattle.ck_disk.specs.Disk.{Image, Meaning, Step, TearsAt}
 use Rattle.ck_alloc.specs.Blocks.{Allocation, IsFree}
 use Rattle.ck_volume.specs.declared.fault.Fault.{Fault}
 use Rattle.ck_volume.specs.declared.fault.Fault.TheVariants.{ReadFault, WriteFault, NoMemory}
-use Rattle.ck_volume.specs.Reading.{OnlyReads}
+use Rattle.ck_disk.specs.Runs.{OnlyReads}
 use Rattle.ck_volume.specs.Writing.{IsWritingFault}
 use Rattle.ck_volume.specs.Storing.{StoredBlock, with_stored, StoredOrSame, LeavesTorn, OnlyStores}
 

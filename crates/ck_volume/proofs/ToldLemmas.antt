@@ -5,7 +5,7 @@ use Rattle.ck_model.specs.declared.entry.Entry.{Entry}
 use Rattle.ck_model.specs.Streams.{Texts}
 use Rattle.ck_model.specs.World.{World}
 use Rattle.ck_model.specs.History.{Past, CallsBy, begun, past_of, past_after, IsLegal, IsLegalNext}
-use Rattle.ck_model.proofs.HistoryLemmas.{past_of-append, IsLegalFrom-append}
+use Rattle.ck_model.proofs.HistoryLaws.{past_of-append, IsLegalFrom-append}
 use Rattle.ck_volume.specs.Told.{AreAnswered}
 
 -- of the entries with one more, those before it and the last

@@ -8,7 +8,7 @@ use Rattle.ck_model.specs.declared.entry.Entry.{Entry}
 use Rattle.ck_model.specs.declared.reply.Reply.TheVariants.{WriteFault}
 use Rattle.ck_model.specs.Streams.{Texts}
 use Rattle.ck_model.specs.Space.{without_picks}
-use Rattle.ck_model.proofs.HistoryLemmas.{past_of-append, world_after-fault}
+use Rattle.ck_model.proofs.HistoryLaws.{past_of-append, world_after-fault}
 use Rattle.ck_model.specs.World.{World, unmounted}
 use Rattle.ck_model.specs.History.{CallsBy, Past, begun, state, world_after}
 use Rattle.ck_volume.specs.declared.engine.Engine.{Engine}

@@ -6,8 +6,8 @@ use Rattle.std.specs.Ordering.{nat_cmp}
 use Rattle.ck_disk.specs.Disk.{Image, Meaning, Lawful, Step, LeavesOnly, Agrees, Outside, IsSynced}
 use Rattle.ck_log.specs.Layout.{Layout, base_of, size_of}
 use Rattle.ck_log.specs.Images.{table_on, names_second, Settled, CommitLeaves}
-use Rattle.ck_log.proofs.Areas.{area_low, area_high}
-use Rattle.ck_log.proofs.Recovery.{table_on-set, settled-keeps}
+use Rattle.ck_log.proofs.AreaLaws.{area_low, area_high}
+use Rattle.ck_log.proofs.RecoveryLaws.{table_on-set, settled-keeps}
 use Rattle.ck_alloc.specs.Blocks.{Allocation, IsPartition, free_count}
 use Rattle.ck_model.specs.World.{World, unmounted}
 use Rattle.ck_model.specs.Table.{Table}
@@ -17,18 +17,19 @@ use Rattle.ck_volume.specs.Committed.{Keeps, OpensToEither}
 use Rattle.ck_volume.specs.Device.{store_on}
 use Rattle.ck_volume.specs.Files.{AreFiles}
 use Rattle.ck_volume.specs.Plain.{IsOurs}
-use Rattle.ck_volume.specs.Reading.{OnlyReads}
+use Rattle.ck_disk.specs.Runs.{OnlyReads, Runs}
 use Rattle.ck_volume.specs.Storing.{StoredOrSame, OnlyStores}
 use Rattle.ck_slots.specs.Committed.{Commits}
 use Rattle.ck_volume.specs.Telling.{limits_of}
 use Rattle.ck_volume.specs.declared.fault.Fault.{Fault}
 use Rattle.ck_volume.specs.declared.engine.Engine.{Engine}
-use Rattle.ck_volume.specs.Engine.{log_of, table_of, mounts_of, blocks_of, layout_of, data_of, world_of, IsWhole, KeepsWorld, GoesOn, GoesOnOrBreaks, Runs, IsAttempt}
+use Rattle.ck_volume.specs.Engine.{log_of, table_of, mounts_of, blocks_of, layout_of, data_of, world_of, IsWhole, KeepsWorld, GoesOn, GoesOnOrBreaks, IsAttempt}
 use Rattle.ck_volume.proofs.Allocated.{used_count}
 use Rattle.ck_volume.proofs.Worlds.{world_same}
 use Rattle.ck_volume.proofs.StoringLemmas.{stored-keeps}
 use Rattle.ck_volume.proofs.SafeLemmas.{kept_there}
-use Rattle.ck_volume.proofs.CommittedLemmas.{keeps-busy, keeps-committing, keeps-new, leaves_more, settled_busy, settled_allocated}
+use Rattle.ck_volume.proofs.CommittedLemmas.{keeps-busy, keeps-committing, keeps-new, settled_busy, settled_allocated}
+use Rattle.ck_disk.proofs.MomentLaws.{leaves_more}
 use Rattle.ck_volume.proofs.GoesOnLemmas.{KeepsEither, either_busy, either_stores, either_reads, leaves_either_start, leaves_either_step, leaves_either_stores}
 
 pub on_ok_map : {A E : Type 0} (P Q : Type 0) (r : Result A E) → (P → Q) → OnOk r P → OnOk r Q

@@ -12,22 +12,22 @@ use Rattle.ck_model.specs.declared.held.Held.TheVariants.{Absent, Plain, Extent,
 use Rattle.ck_model.specs.declared.change.Change.{Change}
 use Rattle.ck_model.specs.declared.change.Change.TheVariants.{Put, Write, Del}
 use Rattle.ck_model.specs.Key.{key_cmp, key_cmp_total, key_cmp_exact}
-use Rattle.ck_model.specs.Cells.{Cells}
+use Rattle.ck_model.specs.Cells.{Cells, set_cell}
 use Rattle.ck_model.specs.World.{World, Mounts}
 use Rattle.ck_model.specs.Table.{Table, IsTable, column}
 use Rattle.ck_model.specs.Chain.{present}
 use Rattle.ck_model.specs.Rules.{IsSound, IsOwn}
 use Rattle.ck_model.specs.Values.{Store, cell_on, cells_on}
 use Rattle.ck_model.specs.Standing.{values_of, world_on}
-use Rattle.ck_model.proofs.ValuesOf.{get-values_of, get-cells_on}
+use Rattle.ck_model.proofs.ValueLaws.{get-values_of, get-cells_on}
 use Rattle.ck_chain.specs.Changes.{key_of, value_after}
-use Rattle.ck_chain.proofs.Columns.{same_or_other}
+use Rattle.ck_chain.proofs.ColumnLaws.{same_or_other}
 use Rattle.ck_push.specs.Changed.{changed}
-use Rattle.ck_push.proofs.SeenLaws.{others_stay, primary_changed, changed_reads}
+use Rattle.ck_push.proofs.ChangeLaws.{changed_reads, primary_changed, others_stay, lawful_after, sound_after, may_all_after}
 use Rattle.ck_volume.specs.Plain.{IsPlain}
-use Rattle.ck_volume.specs.Changing.{changed_all, set_cell, with_changes, MayChangeAll}
+use Rattle.ck_volume.specs.Changing.{with_changes}
+use Rattle.ck_push.specs.Changes.{MayChangeAll, changed_all}
 use Rattle.ck_volume.proofs.Checkpoints.{checkpoints_kept}
-use Rattle.ck_volume.proofs.ChangedLaws.{lawful_after, sound_after, may_all_after}
 
 pub get-set_cell : (cells : Cells) (key : Key) (o : Option Cell) (q : Key) → map.get (set_cell cells key o) q ≡ cond (eq_by_cmp key_cmp q key) o (map.get cells q)
 get-set_cell cells key None q = map.get-remove key_cmp_total cells key q

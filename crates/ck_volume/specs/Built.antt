@@ -2,7 +2,7 @@
 use Rattle.std.specs.Prelude.{◌≡◌, ◌≤◌, ⊤, false}
 use Rattle.ck_model.specs.declared.call.Call.{Call}
 use Rattle.ck_model.specs.declared.call.Call.TheVariants.{Make, Mkdir, Rm, Rmdir, Mv, Write, Fill, Trunc, Read, List as Ls, Stat, Create, Ckpts, Mount, Umount, Cread, Clist, Info, Sync}
-use Rattle.ck_model.specs.Changing.{file_limit}
+use Rattle.ck_model.specs.Limits.{file_limit}
 use Rattle.ck_model.specs.Name.{IsCheckpointName}
 
 -- all calls but remove, nodata, removable, restore, backup, full and create with flags; places and sizes are within the

@@ -2,11 +2,12 @@
 use Rattle.std.specs.Prelude.{◌≡◌, ◌≢◌, ◌<◌, ◌≤◌, ⊤, ℕ, true, List, [], ◌∷◌, ◌++◌, Option, Some, None, IsSome, IfSome}
 use Rattle.std.specs.Option.{option_map}
 use Rattle.std.specs.FinMap as map
+use Rattle.ck_push.specs.Changes.{MayChange, IsApart, AllApart}
 use Rattle.ck_model.specs.declared.key.Key.{Key}
 use Rattle.ck_model.specs.declared.cell.Cell.{Cell}
 use Rattle.ck_model.specs.declared.held.Held.{Held}
 use Rattle.ck_model.specs.declared.change.Change.{Change}
-use Rattle.ck_model.specs.Cells.{Cells}
+use Rattle.ck_model.specs.Cells.{Cells, set_cell}
 use Rattle.ck_model.specs.declared.checkpoint.Counters.{Counters}
 use Rattle.ck_model.specs.Held.{IsEntry, IsKey, IsCounters}
 use Rattle.ck_model.specs.Values.{Store, cell_on}
@@ -17,40 +18,7 @@ use Rattle.ck_chain.specs.Changes.{key_of, is_deletion, value_after}
 use Rattle.ck_push.specs.Changed.{changed}
 use Rattle.ck_volume.specs.Allocating.{blocks_held}
 
--- the table after these changes, one after the other, with this stamp
-abbrev pub changed_all : Table → List Change → ℕ → Table
-changed_all t [] stamp = t
-changed_all t (item ∷ items) stamp = changed_all (changed t (key_of item) (value_after item stamp)) items stamp
-
--- the change may be made, whatever room there is
-pub record MayChange (t : Table) (item : Change) (stamp : ℕ) : Type 0 where
-  pub key : IsKey (key_of item)
-  pub below : KeyBelow t.counters.number (key_of item)
-  pub deleted : is_deletion item ≡ true → IsSome (column t (key_of item) 0)
-  pub entry : IfSome (value_after item stamp) (IsEntry (key_of item))
-  pub version : (fs : ℕ) (held : Held) → column t (key_of item) fs ≡ Some held → stamp_in held ≢ Some stamp
-  pub numbers : IfSome (value_after item stamp) (λ held. KeyBelow t.counters.number (key_of item) × HeldBelow t.counters.number held)
-  pub block : IfSome (block_of (value_after item stamp)) (λ block. (block < t.blocks) × (IsNamed t block → ⊥))
-
--- it has another key than this one, and writes another block
-pub record IsApart (stamp : ℕ) (item other : Change) : Type 0 where
-  pub key : key_of other ≢ key_of item
-  pub block : (block : ℕ) → block_of (value_after item stamp) ≡ Some block → block_of (value_after other stamp) ≢ Some block
-
-abbrev pub AllApart : ℕ → Change → List Change → Type 0
-AllApart stamp item [] = ⊤
-AllApart stamp item (other ∷ others) = IsApart stamp item other × AllApart stamp item others
-
--- each may be made at this table, and they have different keys and blocks
-abbrev pub MayChangeAll : Table → List Change → ℕ → Type 0
-MayChangeAll t [] stamp = ⊤
-MayChangeAll t (item ∷ items) stamp = MayChange t item stamp × AllApart stamp item items × MayChangeAll t items stamp
-
 -- ---- what the primary map comes to
-
-abbrev pub set_cell : Cells → Key → Option Cell → Cells
-set_cell cells key None = map.remove cells key
-set_cell cells key (Some cell) = map.insert cells key cell
 
 -- the map after a change, over these data blocks
 abbrev pub with_change : Store → Cells → Change → ℕ → Cells

@@ -1,5 +1,6 @@
 -- What a volume stands for, and what its events answer.
 use Rattle.std.specs.Prelude.{◌≡◌, ◌≤◌, ℕ, Bool, true, None, Option, Result, Ok, Err, IsTrue, MatchBool, nat_eq, ◌⊎◌, List, [], ◌∷◌, length}
+use Rattle.ck_disk.specs.Runs.{Runs}
 use Rattle.ck_disk.specs.Disk.{Image, Meaning, Rose, LeavesOnly}
 use Rattle.ck_log.specs.Layout.{Layout, base_of, size_of}
 use Rattle.ck_log.specs.Images.{Settled}
@@ -143,14 +144,6 @@ Answers texts w actor at call reply next =
     MatchBool (is_fault reply) (next ≡ w) (step texts w actor at call ≡ answered_with reply next)
 
 -- ---- what a call leaves on the device
-
--- what every call on a device keeps, one after the other
-pub record Runs (old new : Meaning) : Type 0 where
-  pub size : new.size ≡ old.size
-  pub tells : new.tells ≡ old.tells
-  pub reads : old.read_faults ≤ new.read_faults
-  pub writes : old.write_faults ≤ new.write_faults
-  pub later : old.moment ≤ new.moment
 
 -- While it runs, a crash leaves the world that was committed last, or the present one from before the call. Where it
 -- isn't broken afterwards, one of the two is committed, and the volume goes on.

@@ -3,13 +3,14 @@ use Rattle.std.specs.Prelude.{◌≡◌, ◌<◌, ◌≤◌, ℕ, IsTrue}
 use Rattle.ck_disk.specs.Disk.{Image, Meaning, Rose}
 use Rattle.ck_log.specs.Layout.{size_of}
 use Rattle.ck_model.specs.World.{World, empty_world}
-use Rattle.ck_model.specs.Standing.{checkpoint_limit}
+use Rattle.ck_model.specs.Limits.{checkpoint_limit}
 use Rattle.ck_volume.specs.declared.format.FormatFault.{FormatFault}
 use Rattle.ck_volume.specs.declared.format.FormatFault.TheVariants as fault
 use Rattle.ck_volume.specs.declared.engine.Engine.{Engine}
 use Rattle.ck_volume.specs.Exact.{IsExact}
 use Rattle.ck_volume.specs.Opening.{IsBegun}
-use Rattle.ck_volume.specs.Engine.{world_of, KeepsWorld, Runs}
+use Rattle.ck_volume.specs.Engine.{world_of, KeepsWorld}
+use Rattle.ck_disk.specs.Runs.{Runs}
 
 -- the world of a new volume: the root directory alone
 abbrev pub new_world : ℕ → ℕ → World

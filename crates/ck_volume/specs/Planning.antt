@@ -8,7 +8,8 @@ use Rattle.ck_model.specs.Table.{Table}
 use Rattle.ck_model.specs.Values.{Store}
 use Rattle.ck_model.specs.Standing.{world_on}
 use Rattle.ck_push.specs.Growth.{gains, losses, write_count}
-use Rattle.ck_tree.specs.Plan.{IsPlan, changed_by}
+use Rattle.ck_tree.specs.Plan.{IsPlan}
+use Rattle.ck_model.specs.Changing.{changed_by}
 use Rattle.ck_volume.specs.Room.{has_room, answered_with}
 use Rattle.ck_volume.specs.declared.planning.Planned.{Planned}
 use Rattle.ck_volume.specs.declared.planning.Planned.TheVariants.{Answered, Changes}

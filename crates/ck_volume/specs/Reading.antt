@@ -19,13 +19,6 @@ part_of store named from count = list_map (slice_index (bytes_of store named)) (
 abbrev pub IsFilled : List ℕ → List ℕ → Type 0
 IsFilled bytes block = (place : ℕ) → slice_index block place ≡ slice_index bytes place
 
--- nothing is written
-pub record OnlyReads (old new : Meaning) : Type 0 where
-  pub shows : new.shows ≡ old.shows
-  pub crash : Within new.may_leave old.may_leave
-  pub marks : KeepsClean old.written new.written
-  pub step : Step old new
-
 -- a read failed, or memory was refused
 abbrev pub IsReadingFault : Meaning → Meaning → Fault → Type 0
 IsReadingFault old new ReadFault = Rose old.read_faults new.read_faults

@@ -10,7 +10,7 @@ use Rattle.ck_model.specs.declared.checkpoint.State.{State}
 use Rattle.ck_model.specs.declared.checkpoint.State.TheVariants as state
 use Rattle.ck_model.specs.World.{keeps_files}
 use Rattle.ck_model.specs.Table.{Table}
-use Rattle.ck_model.specs.Standing.{checkpoint_limit}
+use Rattle.ck_model.specs.Limits.{checkpoint_limit}
 
 abbrev pub limits_of : Table → Limits
 limits_of t = record { blocks = t.blocks; records = t.records; checkpoints = checkpoint_limit }

@@ -12,7 +12,8 @@ use Rattle.ck_volume.specs.declared.volume.Volume.{Volume}
 use Rattle.ck_volume.specs.Causes.{HasCauses}
 use Rattle.ck_volume.specs.Cuts as cuts
 use Rattle.ck_volume.specs.Engine as engine
-pub use Rattle.ck_volume.specs.Engine.{newest, is_read_fault, Runs, Follows, HasCause, IsEntryOf}
+pub use Rattle.ck_volume.specs.Engine.{newest, is_read_fault, Follows, HasCause, IsEntryOf}
+pub use Rattle.ck_disk.specs.Runs.{Runs}
 use Rattle.ck_volume.specs.Formatting as formatting
 use Rattle.ck_volume.specs.Kept as kept
 pub use Rattle.ck_volume.specs.Kept.{broken_by, BreaksFrom}

@@ -7,7 +7,8 @@ ghost use Rattle.ck_push.specs.Changed.{changed};
 ghost use Rattle.ck_push.specs.Growth.{gains, growth, losses};
 ghost use Rattle.ck_volume.specs.Allocating.{AreUnnamed, is_named, IsAllocated, IsAllocatedBut, KeepsBusy, blocks_held};
 ghost use Rattle.ck_volume.specs.Plain.{IsOurs};
-ghost use Rattle.ck_volume.specs.Changing.{changed_all, raised, IsRaised, MayChange, MayChangeAll, written_by};
+ghost use Rattle.ck_volume.specs.Changing.{raised, IsRaised, written_by};
+ghost use Rattle.ck_push.specs.Changes.{MayChangeAll, MayChange, changed_all};
 ghost use Rattle.ck_volume.specs.Files.{AreFiles};
 
 use ck_alloc::Blocks;

@@ -1,6 +1,6 @@
 ghost use Rattle.std.specs.Prelude.{◌≡◌, ◌-◌, ◌≤◌, true, false, IsTrue, IfOk, IfErr, OnOk, OnErr};
 ghost use Rattle.ck_model.specs.declared.call.Call.TheVariants.{Sync};
-ghost use Rattle.ck_model.specs.Changing.{file_limit};
+ghost use Rattle.ck_model.specs.Limits.{file_limit};
 ghost use Rattle.ck_model.specs.History.{is_fault};
 ghost use Rattle.ck_model.specs.Reporting.{range_read, checkpoint_read};
 ghost use Rattle.ck_model.specs.Standing.{world_on};
@@ -13,7 +13,8 @@ ghost use Rattle.ck_volume.specs.Built.{IsBuilt, IsQuiet};
 ghost use Rattle.ck_volume.specs.Files.{AreFiles};
 ghost use Rattle.ck_volume.specs.Freezing.{Freezes};
 ghost use Rattle.ck_push.specs.Growth.{gains, losses, write_count};
-ghost use Rattle.ck_tree.specs.Plan.{IsChanging, IsPlan, changed_by};
+ghost use Rattle.ck_tree.specs.Plan.{IsPlan};
+ghost use Rattle.ck_model.specs.Changing.{IsChanging, changed_by};
 ghost use Rattle.ck_volume.specs.Room.{answered_with, has_room};
 ghost use Rattle.ck_volume.specs.Telling.{limits_of};
 ghost use Rattle.ck_volume.specs.Engine.{disk_of, table_of, mounts_of, blocks_of, layout_of, log_of, broken_of, world_of, IsWhole, KeepsWorld, GoesOnOrBreaks, IsAttempt, no_memory};

@@ -4,7 +4,8 @@ ghost use Rattle.ck_model.specs.World.{World, unmounted};
 ghost use Rattle.ck_volume.specs.declared.closing.CommitAnswer.TheVariants as answer;
 ghost use Rattle.ck_volume.specs.Closing.{broken_after};
 ghost use Rattle.ck_volume.specs.Exact.{IsExact};
-ghost use Rattle.ck_volume.specs.Engine.{disk_of, history_of, room_of, length_of, broken_of, mounts_of, world_of, IsReady, KeepsWorld, Runs, Survives};
+ghost use Rattle.ck_volume.specs.Engine.{disk_of, history_of, room_of, length_of, broken_of, mounts_of, world_of, IsReady, KeepsWorld, Survives};
+ghost use Rattle.ck_disk.specs.Runs.{Runs};
 
 use crate::Fault;
 use crate::engine::Engine;

@@ -11,12 +11,9 @@ ghost use Rattle.ck_volume.specs.Writing.{IsWritingFault};
 use crate::engine::Engine;
 use crate::{DataArea, Fault};
 use ck_disk::Disk;
-use ck_model::Limits;
+use ck_model::{CHECKPOINT_LIMIT, Limits};
 use ck_slots::CommitFault;
 use std::alloc::Global;
-
-/// So many checkpoints may stand.
-const CHECKPOINTS: u32 = 64;
 
 impl<D: Disk> Engine<D> {
     /// Where the data blocks stand.
@@ -36,7 +33,7 @@ impl<D: Disk> Engine<D> {
         Limits {
             blocks: self.slots.blocks(),
             records: self.slots.records(),
-            checkpoints: CHECKPOINTS,
+            checkpoints: CHECKPOINT_LIMIT,
         }
     }
 

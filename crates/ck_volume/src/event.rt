@@ -10,7 +10,8 @@ ghost use Rattle.ck_volume.specs.Cuts.{SurvivesOnTheWay, KeepsOnTheWay};
 ghost use Rattle.ck_volume.specs.Freezing.{Freezes};
 ghost use Rattle.ck_volume.specs.declared.event.Turn.TheVariants.{Answered};
 ghost use Rattle.ck_volume.specs.declared.event.Progress.TheVariants.{Fresh};
-ghost use Rattle.ck_volume.specs.Engine.{disk_of, table_of, log_of, history_of, room_of, length_of, broken_of, world_of, past_on, newest, Answers, IsWhole, IsReady, KeepsWorld, Runs, Survives, Follows, HasCause, IsEntryOf};
+ghost use Rattle.ck_volume.specs.Engine.{disk_of, table_of, log_of, history_of, room_of, length_of, broken_of, world_of, past_on, newest, Answers, IsWhole, IsReady, KeepsWorld, Survives, Follows, HasCause, IsEntryOf};
+ghost use Rattle.ck_disk.specs.Runs.{Runs};
 
 use crate::Fault;
 use crate::engine::Engine;

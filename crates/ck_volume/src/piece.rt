@@ -1,6 +1,6 @@
 ghost use Rattle.ck_volume.specs.Pieces.{IsPiece};
 
-use crate::reading::BLOCK;
+use ck_model::BLOCK;
 
 /// The part of a block that bytes of a call stand in: where it begins, with which of the bytes, and
 /// how many of them it has.

@@ -17,11 +17,12 @@ ghost use Rattle.ck_volume.specs.Writing.{AgreeBut, IsWritingFault};
 use crate::DataArea;
 use crate::fault::Fault;
 use crate::piece::piece_of;
-use crate::reading::{BLOCK, block_of, held_at};
+use crate::reading::block_of;
 use crate::storing::store_block;
 use ck_alloc::Blocks;
 use ck_disk::{Block, Disk};
-use ck_model::{Call, Change, Key, Meta};
+use ck_model::{BLOCK, Call, Change, Key, Meta};
+use ck_tree::held_at;
 
 /// A block of this byte alone.
 fn filled(byte: u8) -> Block

@@ -1,6 +1,6 @@
 ghost use Rattle.std.specs.Prelude.{◌≡◌, ◌+◌, ◌≤◌, ◌<◌, ◌++◌, IsTrue, OnOk, IfOk, IfErr};
 ghost use Rattle.std.specs.Option.{ForSome, option_and_then};
-ghost use Rattle.ck_model.specs.Changing.{file_limit};
+ghost use Rattle.ck_model.specs.Limits.{file_limit};
 ghost use Rattle.ck_model.specs.Reading.{file_range};
 ghost use Rattle.ck_model.specs.Values.{cells_on};
 ghost use Rattle.ck_model.specs.Rules.{block_in};
@@ -9,17 +9,14 @@ ghost use Rattle.ck_model.specs.Standing.{values_of};
 ghost use Rattle.ck_volume.specs.Plain.{IsOurs};
 ghost use Rattle.ck_volume.specs.Device.{store_on};
 ghost use Rattle.ck_volume.specs.declared.fault.Fault.TheVariants.{ReadFault};
-ghost use Rattle.ck_volume.specs.Reading.{bytes_of, part_of, IsFilled, OnlyReads, IsReadingFault};
+ghost use Rattle.ck_volume.specs.Reading.{bytes_of, part_of, IsFilled, IsReadingFault};
+ghost use Rattle.ck_disk.specs.Runs.{OnlyReads};
 
 use crate::fault::Fault;
-use ck_chain::value;
 use ck_disk::{Block, Disk};
-use ck_model::{Held, Key, Meta};
-use ck_tree::size_at;
+use ck_model::{BLOCK, Held, Key, Meta};
+use ck_tree::{held_at, size_at};
 use std::alloc::Global;
-
-/// The bytes of a block.
-pub const BLOCK: u64 = 4096;
 
 /// Where the data blocks stand: for n below `blocks`, data block n is the device's `base` + n.
 #[derive(Clone, Copy, Debug, PartialEq, Eq)]
@@ -83,19 +80,6 @@ fn append_part<D: Disk>(
     load(disk, area, named, &mut block)?;
     bytes.extend_from_slice(&block[from..from + count])?;
     Ok(())
-}
-
-/// What a fileset has at a key, the primary among them.
-pub fn held_at<M: Meta>(meta: &M, fs: u32, key: &Key) -> Option<Held>
-    ensures { result ≡ value_at (M.table meta.now) fs key.now }
-{
-    if fs > 0 {
-        return value(meta, fs, key);
-    }
-    match meta.get(0, key) {
-        Some(Held::Absent) => None,
-        held => held,
-    }
 }
 
 /// At most so many bytes of a file of a fileset from a place on, as far as they stand below its

@@ -1,5 +1,5 @@
 ghost use Rattle.std.specs.Prelude.{◌≡◌, ◌+◌, ◌≤◌, false, IsTrue, IfOk, IfErr};
-ghost use Rattle.ck_model.specs.Changing.{file_limit};
+ghost use Rattle.ck_model.specs.Limits.{file_limit};
 ghost use Rattle.ck_model.specs.World.{World};
 ghost use Rattle.ck_model.specs.Reporting.{range_read, checkpoint_read};
 ghost use Rattle.ck_model.specs.History.{is_fault};
@@ -9,7 +9,8 @@ ghost use Rattle.ck_model.specs.Values.{cells_on};
 ghost use Rattle.ck_volume.specs.Device.{store_on};
 ghost use Rattle.ck_volume.specs.Plain.{IsOurs};
 ghost use Rattle.ck_volume.specs.Room.{answered_with};
-ghost use Rattle.ck_volume.specs.Reading.{OnlyReads, IsReadingFault};
+ghost use Rattle.ck_volume.specs.Reading.{IsReadingFault};
+ghost use Rattle.ck_disk.specs.Runs.{OnlyReads};
 
 use crate::mounting::mounted_at;
 use crate::reading::read_range;

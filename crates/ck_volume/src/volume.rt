@@ -3,7 +3,8 @@ ghost use Rattle.std.specs.Option.{option_or};
 ghost use Rattle.std.proofs.Props.{props};
 ghost use Rattle.ck_volume.specs.Causes.{HasCauses};
 ghost use Rattle.ck_volume.specs.Cuts.{LeavesCuts};
-ghost use Rattle.ck_volume.specs.Engine.{disk_of, history_of, length_of, broken_of, IsReady, Runs};
+ghost use Rattle.ck_volume.specs.Engine.{disk_of, history_of, length_of, broken_of, IsReady};
+ghost use Rattle.ck_disk.specs.Runs.{Runs};
 ghost use Rattle.ck_volume.specs.Kept.{broken_by, BreaksFrom, Stands};
 ghost use Rattle.ck_volume.specs.Told.{told_of};
 

@@ -2,7 +2,7 @@
 #![tactic(auto)]
 
 mod command;
-mod matching;
+mod patterns;
 
 pub use command::Command;
-pub use matching::match_words;
+pub use patterns::match_words;

@@ -1,4 +1,4 @@
-//! `ckptimage COMMAND`: backup streams on standard input are looked at, or applied.
+//! `ckptimage COMMAND`: backup streams on standard input are looked at, applied, or merged.
 #![tactic(auto)]
 
 use ck_image::image_top;
@@ -12,6 +12,8 @@ const HELP: &[u8] = b"usage: ckptimage COMMAND
 
 verify  reads one stream, and says what it is
 apply   reads a full stream and changed ones behind it, and prints the full stream that results
+merge   reads changed streams, each of which begins where the one before it ends, and prints the one
+        that has the changes of all
 
 The streams are on standard input.
 ";

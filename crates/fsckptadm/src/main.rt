@@ -1,7 +1,7 @@
 //! `fsckptadm COMMAND IMAGE`: a file system with storage checkpoints, on one device.
 #![tactic(auto)]
 
-ghost use Rattle.ck_words.specs.Words.{IsWithin};
+ghost use Rattle.ck_words.specs.Command.{IsWithin};
 
 use ck_admin::top;
 use ck_disk::{Disk, FileDisk, MemDisk};

@@ -9,7 +9,7 @@ use Rattle.ck_model.specs.World.{World, unmounted}
 use Rattle.ck_script.specs.Numbered.{calls_in}
 use Rattle.ck_volume.specs.Causes.{HasCauses}
 use Rattle.ck_volume.specs.Cuts.{LeavesCuts as KeepsCuts}
-use Rattle.ck_volume.specs.Engine.{Runs}
+use Rattle.ck_disk.specs.Runs.{Runs}
 use Rattle.ck_volume.specs.Exact.{IsExact}
 use Rattle.ck_volume.specs.Kept.{Stands}
 use Rattle.ck_volume.specs.Recovering.{Recovers}

@@ -1,7 +1,7 @@
 use Rattle.std.proofs.Common.{◌≡◌, ◌+◌, take, length, sym, ap, ◌∙◌}
 use Rattle.std.proofs.Math.Seq.{take-append_seam}
 use Rattle.ck_script.specs.Reading.{read_script}
-use Rattle.ck_script.proofs.ReadingLemmas.{read_script-take}
+use Rattle.ck_script.proofs.ScriptLaws.{read_script-take}
 use Rattle.ck_admin.proofs.read.read_bytes.Goals as goal
 
 pub returns-in-Err-TooLong-clause-read : goal.returns-in-Err-TooLong-clause-read

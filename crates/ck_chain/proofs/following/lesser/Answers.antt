@@ -1,7 +1,7 @@
 use Rattle.std.proofs.Common.{◌≡◌, ◌&&◌, Some, sym, subst, ◌∙◌}
 use Rattle.ck_model.specs.declared.key.Key.{Key}
 use Rattle.ck_chain.specs.Following.{is_before}
-use Rattle.ck_chain.proofs.KeyOrder.{before-first, before-second}
+use Rattle.ck_chain.proofs.KeyOrderLaws.{before-first, before-second}
 use Rattle.ck_chain.proofs.following.lesser.Goals as goal
 
 pub returns-then-is_less-clause-before : goal.returns-then-is_less-clause-before

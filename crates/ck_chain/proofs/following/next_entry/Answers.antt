@@ -1,5 +1,5 @@
 use Rattle.std.specs.Option.{option_copied}
-use Rattle.ck_chain.proofs.FollowingLemmas.{next_is, next_entry_is}
+use Rattle.ck_chain.proofs.FollowingLaws.{next_is, next_entry_is}
 use Rattle.ck_chain.proofs.following.next_entry.Goals as goal
 
 pub returns-clause-next : goal.returns-clause-next

@@ -4,9 +4,9 @@ use Rattle.ck_model.specs.Table.{column, record_count}
 use Rattle.ck_model.specs.Chain.{seen}
 use Rattle.ck_model.specs.Rules.{IsNeeded, IsOrderly}
 use Rattle.ck_chain.specs.Needless.{tidied, SaysSame}
-use Rattle.ck_chain.proofs.Laws.{live_stands}
-use Rattle.ck_chain.proofs.Orderly.{positive_id}
-use Rattle.ck_chain.proofs.Holders.{needed_tidied, needed_here, orderly_tidied}
+use Rattle.ck_chain.proofs.ReadLaws.{live_stands}
+use Rattle.ck_chain.proofs.OrderlyLaws.{positive_id}
+use Rattle.ck_chain.proofs.HolderLaws.{needed_tidied, needed_here, orderly_tidied}
 use Rattle.ck_chain.proofs.TidyLaws.{tidied_reads, tidied_primary, tidied_extents, tidied_shrinks}
 use Rattle.ck_chain.proofs.SameValues.{goes_where_same}
 use Rattle.ck_chain.proofs.tidying.tidy.Goals as goal

@@ -2,9 +2,9 @@ use Rattle.std.proofs.Common.{◌≡◌, true, false, IfSome, sym, subst, ◌∙
 use Rattle.std.specs.Option.{option_copied}
 use Rattle.ck_model.specs.declared.key.Key.{Key}
 use Rattle.ck_chain.specs.Following.{is_after, is_before}
+use Rattle.ck_chain.proofs.FollowingLaws.{further, between_more}
+use Rattle.ck_chain.proofs.KeysLeftLaws.{left_smaller}
 use Rattle.ck_changed.specs.Differing.{differs_at, values_differ}
-use Rattle.ck_chain.proofs.FollowingLemmas.{further, between_more}
-use Rattle.ck_chain.proofs.KeysLeft.{left_smaller}
 use Rattle.ck_changed.proofs.comparing.next_difference.Goals as goal
 
 pub loop-here-smaller : goal.loop-here-smaller

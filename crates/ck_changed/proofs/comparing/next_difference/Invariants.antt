@@ -1,9 +1,8 @@
 use Rattle.std.proofs.Common.{◌≡◌, true, false, IfSome}
 use Rattle.std.specs.Option.{option_copied}
 use Rattle.ck_model.specs.declared.key.Key.{Key}
-use Rattle.ck_chain.specs.Following.{is_after, is_before}
+use Rattle.ck_chain.specs.Following.{is_after, is_before, keys_left}
 use Rattle.ck_changed.specs.Differing.{differs_at}
-use Rattle.ck_chain.proofs.KeysLeft.{keys_left}
 use Rattle.ck_changed.proofs.comparing.next_difference.Given as goal
 
 abbrev pub invariant-loop-here : goal.invariant-loop-here

@@ -3,8 +3,8 @@ use Rattle.std.specs.Option.{option_copied}
 use Rattle.ck_model.specs.Table.{column, newer}
 use Rattle.ck_model.specs.Chain.{first_entry}
 use Rattle.ck_chain.specs.Following.{is_after, is_before, IsHeld}
+use Rattle.ck_chain.proofs.FollowingLaws.{first_without, first_with, of_either}
 use Rattle.ck_changed.specs.Differing.{EntryBetween}
-use Rattle.ck_chain.proofs.FollowingLemmas.{first_without, first_with, of_either}
 use Rattle.ck_changed.proofs.DifferingLemmas.{first_from, some_newer, alike_from, entry_between}
 use Rattle.ck_changed.proofs.following.next_between.Goals as goal
 

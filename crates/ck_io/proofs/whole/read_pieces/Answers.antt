@@ -1,4 +1,5 @@
-use Rattle.ck_io.proofs.BytesLemmas.{told_on, ends_on}
+use Rattle.ck_io.proofs.BytesLemmas.{ends_on}
+use Rattle.ck_io.proofs.ByteLaws.{told_on}
 use Rattle.ck_io.proofs.whole.read_pieces.Goals as goal
 
 pub returns-in_err-take_piece-clause-rest : goal.returns-in_err-take_piece-clause-rest

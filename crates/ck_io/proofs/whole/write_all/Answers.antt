@@ -1,5 +1,6 @@
 use Rattle.std.proofs.Common.{◌∙◌, ap, length, length-drop, arith}
-use Rattle.ck_io.proofs.BytesLemmas.{told_on, gains_taken, appends_more, slice_rest}
+use Rattle.ck_io.proofs.BytesLemmas.{gains_taken, appends_more, slice_rest}
+use Rattle.ck_io.proofs.ByteLaws.{told_on}
 use Rattle.ck_io.proofs.whole.write_all.Goals as goal
 
 pub returns-in_err-written-clause-part : goal.returns-in_err-written-clause-part

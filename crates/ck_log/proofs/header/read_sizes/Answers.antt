@@ -1,5 +1,5 @@
 use Rattle.std.proofs.Common.{IsTrue, sym, ◌∙◌}
-use Rattle.ck_log.proofs.Recovery.{sizes_read, refusal_read}
+use Rattle.ck_log.proofs.RecoveryLaws.{sizes_read, refusal_read}
 use Rattle.ck_log.proofs.header.read_sizes.Goals as goal
 
 pub returns-in-Ok-clause-opens : goal.returns-in-Ok-clause-opens

@@ -1,9 +1,9 @@
 use Rattle.std.proofs.Common.{◌<◌, ◌≤◌, IsTrue, inr, length, arith}
 use Rattle.ck_disk.specs.Disk.{Outside}
 use Rattle.ck_log.specs.Layout.{size_of}
-use Rattle.ck_log.proofs.Areas.{first_area-low}
+use Rattle.ck_log.proofs.AreaLaws.{first_area-low}
 use Rattle.ck_log.proofs.Commits.{told_on}
-use Rattle.ck_log.proofs.Recovery.{has_table-agrees}
+use Rattle.ck_log.proofs.RecoveryLaws.{has_table-agrees}
 use Rattle.ck_log.proofs.Setups.{first_has, header_put, new_volume, table_first, header_last}
 use Rattle.ck_log.proofs.setup.make_volume.Goals as goal
 

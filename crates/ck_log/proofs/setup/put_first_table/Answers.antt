@@ -1,7 +1,7 @@
 use Rattle.std.proofs.Common.{◌<◌, false, length, ◌∙◌, ap, arith}
-use Rattle.ck_disk.proofs.Moments.{keeps_on}
+use Rattle.ck_disk.proofs.MomentLaws.{keeps_on}
 use Rattle.ck_log.specs.Images.{names_second}
-use Rattle.ck_log.proofs.Areas.{outside_area, first_area-low}
+use Rattle.ck_log.proofs.AreaLaws.{outside_area, first_area-low}
 use Rattle.ck_log.proofs.Commits.{told_on}
 use Rattle.ck_log.proofs.Setups.{apart_others, gate_stays, write_run_on, write_run_others}
 use Rattle.ck_log.proofs.setup.put_first_table.Goals as goal

@@ -1,7 +1,7 @@
 use Rattle.std.proofs.Common.{◌+◌, ◌<◌, IsTrue, [], length, replicate, refl, sym, ◌∙◌, ap, subst, arith}
 use Rattle.std.proofs.lemmas.List.{get_or-replicate, length-replicate}
 use Rattle.ck_disk.specs.Disk.{Outside, Agrees, Image}
-use Rattle.ck_disk.proofs.Moments.{writes_on, agrees_set, agrees_on}
+use Rattle.ck_disk.proofs.MomentLaws.{writes_on, agrees_set, agrees_on}
 use Rattle.ck_log.specs.Images.{part}
 use Rattle.ck_log.specs.FirstTable.{blank_block}
 use Rattle.ck_log.proofs.Parts.{run_more, apart_run}

@@ -1,6 +1,6 @@
 use Rattle.std.proofs.Common.{◌+◌, ◌<◌, IsTrue, length, refl, sym, ◌∙◌, ap, subst, arith}
 use Rattle.ck_disk.specs.Disk.{Outside, Agrees, Image}
-use Rattle.ck_disk.proofs.Moments.{writes_on, agrees_set, agrees_on}
+use Rattle.ck_disk.proofs.MomentLaws.{writes_on, agrees_set, agrees_on}
 use Rattle.ck_log.specs.Images.{part}
 use Rattle.ck_log.proofs.Parts.{run_more, apart_run}
 use Rattle.ck_log.proofs.writes.write_run.Goals as goal

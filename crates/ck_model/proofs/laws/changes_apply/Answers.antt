@@ -1,4 +1,4 @@
-use Rattle.ck_model.proofs.StreamsLemmas.{applied-changed}
+use Rattle.ck_model.proofs.StreamLaws.{applied-changed}
 use Rattle.ck_model.proofs.laws.changes_apply.Goals as goal
 
 pub returns : goal.returns

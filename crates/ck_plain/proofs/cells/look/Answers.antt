@@ -2,7 +2,7 @@ use Rattle.std.proofs.Common.{Some, sym, ap, ◌∙◌}
 use Rattle.ck_model.specs.declared.key.Key.{Key}
 use Rattle.ck_model.specs.declared.cell.Cell.{Cell}
 use Rattle.ck_model.specs.Key.{key_cmp_total, key_cmp_exact}
-use Rattle.ck_model.proofs.Places.{get_found, get_gap}
+use Rattle.ck_model.proofs.PlaceLaws.{get_found, get_gap}
 use Rattle.ck_plain.proofs.cells.look.Goals as goal
 
 pub returns-in-Ok : goal.returns-in-Ok

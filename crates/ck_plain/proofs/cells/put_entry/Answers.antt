@@ -1,5 +1,5 @@
 use Rattle.ck_model.specs.Key.{key_cmp_total, key_cmp_exact}
-use Rattle.ck_model.proofs.Places.{set_found, set_gap}
+use Rattle.ck_model.proofs.PlaceLaws.{set_found, set_gap}
 use Rattle.ck_plain.proofs.cells.put_entry.Goals as goal
 
 pub returns-in-Ok-clause-ok : goal.returns-in-Ok-clause-ok

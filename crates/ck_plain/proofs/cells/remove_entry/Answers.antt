@@ -1,6 +1,5 @@
-use Rattle.std.proofs.Common.{get_or}
 use Rattle.ck_model.specs.Key.{key_cmp_total, key_cmp_exact}
-use Rattle.ck_model.proofs.Places.{unset_found, unset_gap}
+use Rattle.ck_model.proofs.PlaceLaws.{unset_found, unset_gap}
 use Rattle.ck_plain.proofs.cells.remove_entry.Goals as goal
 
 pub returns-in-Ok : goal.returns-in-Ok

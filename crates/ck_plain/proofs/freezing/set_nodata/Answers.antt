@@ -1,7 +1,7 @@
 use Rattle.std.proofs.Common.{ap, arith}
 use Rattle.std.specs.FinMap as map
 use Rattle.ck_model.specs.Cells.{Cells}
-use Rattle.ck_model.proofs.Marks.{len-marked}
+use Rattle.ck_model.proofs.MarkLaws.{len-marked}
 use Rattle.ck_plain.proofs.freezing.set_nodata.Goals as goal
 
 pub invariant_of-checkpoint : goal.invariant_of-checkpoint

@@ -1,8 +1,9 @@
-use Rattle.std.proofs.Common.{◌≡◌, ◌++◌, ◌<◌, ◌≤◌, length, take, drop, map as list_map, slice_set, sym, ap, ◌∙◌, arith}
+use Rattle.std.proofs.Common.{◌≡◌, ◌++◌, ◌<◌, length, take, drop, map as list_map, slice_set, sym, ap, ◌∙◌, arith}
 use Rattle.std.proofs.lemmas.Grind.{common_steps}
 use Rattle.std.proofs.lemmas.List.Edits.{map_over_more}
 use Rattle.std.proofs.lemmas.List.{take_all, drop_all}
-use Rattle.ck_model.proofs.Marks.{mark_entry, edits_marked}
+use Rattle.ck_model.specs.Cells.{mark_entry}
+use Rattle.ck_model.proofs.MarkLaws.{edits_marked}
 use Rattle.ck_plain.proofs.marking.mark_blocks.Goals as goal
 
 pub loop-entry-preserved : goal.loop-entry-preserved

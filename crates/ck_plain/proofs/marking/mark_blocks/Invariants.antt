@@ -1,5 +1,5 @@
 use Rattle.std.proofs.Common.{◌≡◌, ◌++◌, take, drop, map as list_map}
-use Rattle.ck_model.proofs.Marks.{mark_entry}
+use Rattle.ck_model.specs.Cells.{mark_entry}
 use Rattle.ck_plain.proofs.marking.mark_blocks.Given as goal
 
 abbrev pub invariant-loop-entry : goal.invariant-loop-entry

@@ -1,10 +1,9 @@
 use Rattle.std.proofs.Common.{◌≡◌, ℕ, suc, ◌<◌, ◌∷◌, List, length, get_or, drop, sym, ap, ◌∙◌, arith, drop-cons}
-use Rattle.std.specs.declared.cmp.Ordering.TheVariants.{Less, Equal}
 use Rattle.std.proofs.lemmas.List.{get_or_default}
 use Rattle.ck_model.specs.declared.key.Key.{Key}
 use Rattle.ck_model.specs.declared.cell.Cell.{Cell}
-use Rattle.ck_model.specs.Key.{key_cmp, key_cmp_total, key_cmp_exact}
-use Rattle.ck_model.proofs.Places.{found_here, absent_here}
+use Rattle.ck_model.specs.Key.{key_cmp_total, key_cmp_exact}
+use Rattle.ck_model.proofs.PlaceLaws.{found_here, absent_here}
 use Rattle.ck_plain.proofs.ordered.search.Goals as goal
 
 module _ (es : List (Key × Cell)) (at : ℕ) (e : Key × Cell) (within : at < length es) (is : e ≡ get_or es at e) where

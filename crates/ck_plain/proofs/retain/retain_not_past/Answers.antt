@@ -1,7 +1,7 @@
 use Rattle.std.proofs.Common.{rules, not}
 use Rattle.std.proofs.lemmas.Fn.{filter_same}
 use Rattle.ck_model.specs.Key.{is_past, key_cmp_total, key_cmp_exact}
-use Rattle.ck_model.proofs.Places.{edits_retain}
+use Rattle.ck_model.proofs.PlaceLaws.{edits_retain}
 use Rattle.ck_plain.proofs.retain.retain_not_past.Goals as goal
 
 pub returns : goal.returns

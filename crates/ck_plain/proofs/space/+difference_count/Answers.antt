@@ -1,7 +1,7 @@
 use Rattle.std.proofs.Common.{◌-◌, ◌<◌, ◌^◌, length, take, drop, ap, arith}
 use Rattle.std.specs.FinMap as map
 use Rattle.ck_model.specs.Cells.{Cells}
-use Rattle.ck_model.proofs.Differences.{len-differences-le}
+use Rattle.ck_model.proofs.DifferenceLaws.{len-differences-le}
 use Rattle.ck_plain.proofs.Bounds.{difference_count-fits, len-next_cells, length_newer}
 use Rattle.ck_plain.proofs.space.+difference_count.Goals as goal
 

@@ -1,6 +1,6 @@
 use Rattle.std.proofs.Common.{false, arith}
 use Rattle.ck_model.specs.Key.{is_block, key_cmp_total, key_cmp_exact}
-use Rattle.ck_model.proofs.Sizes.{len-retain_keys-le}
+use Rattle.ck_model.proofs.SizeLaws.{len-retain_keys-le}
 use Rattle.ck_plain.proofs.Bounds.{held_by-fits}
 use Rattle.ck_plain.proofs.space.held_beside.Goals as goal
 

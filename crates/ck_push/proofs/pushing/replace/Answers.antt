@@ -3,7 +3,7 @@ use Rattle.ck_model.specs.declared.held.Held.{Held}
 use Rattle.ck_model.specs.Table.{column, spare_count}
 use Rattle.ck_push.specs.Changed.{replaced}
 use Rattle.ck_push.specs.Growth.{one_if}
-use Rattle.ck_push.proofs.Replacing.{after_push, del_first, room_to_set, room_after_del, if_pushed}
+use Rattle.ck_push.proofs.ReplacedLemmas.{after_push, del_first, room_to_set, room_after_del, if_pushed}
 use Rattle.ck_push.proofs.pushing.replace.Goals as goal
 
 pub put-requires-clause-room : goal.put-requires-clause-room

@@ -1,6 +1,6 @@
 use Rattle.std.proofs.Common.{◌++◌}
-use Rattle.ck_io.proofs.BytesLemmas.{told_on, gains_first, gains_second}
-use Rattle.ck_text.proofs.AppendLemmas.{appended_two}
+use Rattle.ck_io.proofs.ByteLaws.{told_on, gains_first, gains_second}
+use Rattle.ck_text.proofs.AppendLaws.{appended_two}
 use Rattle.ck_report.proofs.standard_error.write_three.Goals as goal
 
 pub returns-in_err-write_all-clause-part : goal.returns-in_err-write_all-clause-part

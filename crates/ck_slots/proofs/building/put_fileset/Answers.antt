@@ -3,7 +3,7 @@ use Rattle.std.specs.Ordering.{nat_cmp}
 use Rattle.std.specs.Cmp.{nat_cmp_total}
 use Rattle.std.specs.FinMap.{nat_cmp-IsAntisymmetric}
 use Rattle.ck_model.specs.Ordered.{Edits}
-use Rattle.ck_model.proofs.Places.{len_of}
+use Rattle.ck_model.proofs.PlaceLaws.{len_of}
 use Rattle.ck_slots.specs.Building.{with_filesets}
 use Rattle.ck_slots.specs.Recorded.{filesets_of}
 use Rattle.ck_slots.proofs.BuildingLemmas.{edits_same}

@@ -2,7 +2,7 @@ use Rattle.std.proofs.Common.{ℕ, Some, sym, ap, ◌∙◌}
 use Rattle.std.specs.Cmp.{nat_cmp_total}
 use Rattle.std.specs.FinMap.{nat_cmp-IsAntisymmetric}
 use Rattle.ck_model.specs.declared.checkpoint.Fileset.{Fileset}
-use Rattle.ck_model.proofs.Places.{get_found, get_gap}
+use Rattle.ck_model.proofs.PlaceLaws.{get_found, get_gap}
 use Rattle.ck_slots.proofs.filesets.look.Goals as goal
 
 pub returns-in-Ok : goal.returns-in-Ok

@@ -6,7 +6,7 @@ use Rattle.std.proofs.lemmas.List.{get_or_default}
 use Rattle.std.proofs.lemmas.List.Sorted.{IsPartitionPoint-from_clause}
 use Rattle.ck_model.specs.declared.checkpoint.Fileset.{Fileset}
 use Rattle.ck_model.specs.declared.checkpoint.Kind.TheVariants.{Nodata}
-use Rattle.ck_model.proofs.Places.{find_gap}
+use Rattle.ck_model.proofs.PlaceLaws.{find_gap}
 use Rattle.ck_slots.proofs.IdLemmas.{partitioned, front_is, below_falls, place_is}
 use Rattle.ck_slots.proofs.filesets.search.Goals.{else-at-filesets-via-then-at-filesets+else-filesets-at, else-at-filesets-via-else-at-filesets}
 use Rattle.ck_slots.proofs.filesets.search.Goals as goal

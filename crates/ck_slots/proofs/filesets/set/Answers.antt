@@ -2,7 +2,7 @@ use Rattle.std.proofs.Common.{sym, subst, IsSome, inl, inr}
 use mathlib.Core.Bool.{false≢true}
 use Rattle.std.specs.Cmp.{nat_cmp_total}
 use Rattle.std.specs.FinMap.{nat_cmp-IsAntisymmetric}
-use Rattle.ck_model.proofs.Places.{set_found, set_gap, get_gap}
+use Rattle.ck_model.proofs.PlaceLaws.{set_found, set_gap, get_gap}
 use Rattle.ck_slots.proofs.filesets.set.Goals as goal
 
 pub unwrap-requires : goal.unwrap-requires

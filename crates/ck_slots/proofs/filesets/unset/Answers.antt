@@ -1,6 +1,6 @@
 use Rattle.std.specs.Cmp.{nat_cmp_total}
 use Rattle.std.specs.FinMap.{nat_cmp-IsAntisymmetric}
-use Rattle.ck_model.proofs.Places.{unset_found, unset_gap}
+use Rattle.ck_model.proofs.PlaceLaws.{unset_found, unset_gap}
 use Rattle.ck_slots.proofs.filesets.unset.Goals as goal
 
 pub returns-in-Ok-clause-unset : goal.returns-in-Ok-clause-unset

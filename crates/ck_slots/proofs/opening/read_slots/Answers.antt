@@ -1,8 +1,8 @@
 use Rattle.std.proofs.Common.{ℕ, List, [], ◌∷◌, ◌++◌, ◌<◌, IsTrue, get_or, length, take, length-append, sym, ap, subst, ◌∙◌, arith}
 use Rattle.std.proofs.lemmas.List.{take_more}
 use Rattle.ck_disk.specs.Disk.{Image}
+use Rattle.ck_disk.proofs.RunLaws.{reads_on}
 use Rattle.ck_log.specs.Images.{area_of}
-use Rattle.ck_log.proofs.Readings.{reads_on}
 use Rattle.ck_slots.proofs.OpenedLemmas.{area_long}
 use Rattle.ck_slots.proofs.opening.read_slots.Goals as goal
 

@@ -1,6 +1,6 @@
 use Rattle.std.proofs.Common.{◌≡◌, length, take, IsTrue}
+use Rattle.ck_disk.specs.Runs.{OnlyReads}
 use Rattle.ck_log.specs.Images.{area_of}
-use Rattle.ck_log.specs.Reads.{OnlyReads}
 use Rattle.ck_area.specs.Area.{Blocks, AreSlots}
 use Rattle.ck_slots.proofs.opening.read_slots.Given as goal
 

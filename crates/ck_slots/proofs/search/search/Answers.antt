@@ -1,7 +1,7 @@
 use Rattle.std.proofs.Common.{◌≡◌, ◌<◌, length, get_or, T, sym, ap, subst, ◌∙◌, arith}
 use mathlib.Core.Bool.{false≢true}
 use Rattle.ck_model.specs.Key.{entry_cmp_total, entry_cmp_exact}
-use Rattle.ck_model.proofs.Places.{find_gap}
+use Rattle.ck_model.proofs.PlaceLaws.{find_gap}
 use Rattle.ck_slots.specs.declared.search.Cut.TheVariants.{Before}
 use Rattle.ck_slots.specs.Arranged.{arranged, entry_of, no_slot}
 use Rattle.ck_slots.specs.Cut.{stands_before}

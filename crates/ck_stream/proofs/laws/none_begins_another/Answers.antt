@@ -1,4 +1,4 @@
-use Rattle.ck_stream.proofs.StreamLaws.{none_begins}
+use Rattle.ck_stream.proofs.StreamLemmas.{none_begins}
 use Rattle.ck_stream.proofs.laws.none_begins_another.Goals as goal
 
 pub returns : goal.returns

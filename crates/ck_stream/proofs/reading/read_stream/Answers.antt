@@ -1,6 +1,6 @@
 use Rattle.std.proofs.Common.{subst, arith}
 use Rattle.ck_stream.specs.Reading.{Gives}
-use Rattle.ck_stream.proofs.StreamLaws.{is_right, is_spelled, stream_again}
+use Rattle.ck_stream.proofs.StreamLemmas.{is_right, is_spelled, stream_again}
 use Rattle.ck_stream.proofs.reading.read_stream.Goals as goal
 
 pub returns-clause-right : goal.returns-clause-right

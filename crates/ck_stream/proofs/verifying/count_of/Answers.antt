@@ -4,7 +4,7 @@ use Rattle.ck_stream.specs.Reading.{items_at, record_at}
 use Rattle.ck_stream.specs.SeenKey.{key_seen, last_seen}
 use Rattle.ck_stream.specs.Seen.{counted}
 use Rattle.ck_stream.proofs.Loop.{with_front, at_empty, at_end, goes_on, stops_at, is_out}
-use Rattle.ck_stream.proofs.SeenLaws.{keyed_ok, keyed_err}
+use Rattle.ck_stream.proofs.SeenLemmas.{keyed_ok, keyed_err}
 use Rattle.ck_stream.proofs.verifying.count_of.Goals as goal
 
 pub returns-in-None : goal.returns-in-None

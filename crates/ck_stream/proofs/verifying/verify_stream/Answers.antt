@@ -1,7 +1,7 @@
 use Rattle.std.proofs.Common.{ap, sym, ◌∙◌, arith}
 use Rattle.ck_stream.specs.Seen.{seen}
-use Rattle.ck_stream.proofs.StreamLaws.{stream_again}
-use Rattle.ck_stream.proofs.SeenLaws.{seen_is, tells_of}
+use Rattle.ck_stream.proofs.StreamLemmas.{stream_again}
+use Rattle.ck_stream.proofs.SeenLemmas.{seen_is, tells_of}
 use Rattle.ck_stream.proofs.verifying.verify_stream.Goals as goal
 
 pub returns-clause-stands : goal.returns-clause-stands

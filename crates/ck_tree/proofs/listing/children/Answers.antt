@@ -5,7 +5,7 @@ use Rattle.std.specs.FinMap as map
 use Rattle.std.proofs.lemmas.Bool.Decides.{nat_tests}
 use Rattle.ck_model.specs.Key.{is_name_in}
 use Rattle.ck_model.specs.Reading.{child_in, children}
-use Rattle.ck_chain.proofs.KeysLeft.{left_smaller}
+use Rattle.ck_chain.proofs.KeysLeftLaws.{left_smaller}
 use Rattle.ck_tree.proofs.ListingLemmas.{left}
 use Rattle.ck_tree.proofs.ChildrenLemmas.{children_first, children_next, children_last}
 use Rattle.ck_tree.proofs.listing.children.Goals as goal

@@ -4,8 +4,8 @@ use Rattle.std.specs.FinMap as map
 use Rattle.ck_model.specs.Cells.{Cells}
 use Rattle.ck_model.specs.Key.{is_name_in}
 use Rattle.ck_model.specs.Reading.{child_in, children}
+use Rattle.ck_chain.specs.Following.{keys_left}
 use Rattle.ck_tree.specs.Standing.{StandsFor}
-use Rattle.ck_chain.proofs.KeysLeft.{keys_left}
 use Rattle.ck_tree.proofs.ListingLemmas.{left}
 use Rattle.ck_tree.proofs.listing.children.Given as goal
 

@@ -1,7 +1,7 @@
 use Rattle.std.proofs.Common.{◌≡◌, true, nat_eq, Some, IfSome, sym, ap, subst, ◌∙◌, arith}
 use Rattle.std.proofs.lemmas.Bool.Decides.{nat_tests}
 use Rattle.ck_model.specs.Key.{is_name_in}
-use Rattle.ck_chain.proofs.KeysLeft.{left_smaller}
+use Rattle.ck_chain.proofs.KeysLeftLaws.{left_smaller}
 use Rattle.ck_tree.proofs.ChildrenLemmas.{NoneBefore, none_first, none_next, none_at_all, some_name}
 use Rattle.ck_tree.proofs.listing.has_names.Goals as goal
 

@@ -2,8 +2,8 @@ use Rattle.std.proofs.Common.{◌≡◌, true, IfSome}
 use Rattle.ck_model.specs.Cells.{Cells}
 use Rattle.ck_model.specs.Key.{is_name_in}
 use Rattle.ck_model.specs.Table.{IsTable}
+use Rattle.ck_chain.specs.Following.{keys_left}
 use Rattle.ck_tree.specs.Standing.{StandsFor}
-use Rattle.ck_chain.proofs.KeysLeft.{keys_left}
 use Rattle.ck_tree.proofs.ChildrenLemmas.{NoneBefore}
 use Rattle.ck_tree.proofs.listing.has_names.Given as goal
 

@@ -1,6 +1,6 @@
 use Rattle.std.proofs.Common.{◌≢◌, ◌+◌, ◌≤◌, ◌<◌, length, sym, ap, subst, ◌∙◌, arith}
 use Rattle.ck_model.specs.declared.call.Call.TheVariants.{Write}
-use Rattle.ck_model.specs.Changing.{file_limit}
+use Rattle.ck_model.specs.Limits.{file_limit}
 use Rattle.ck_model.specs.Walk.{file_at}
 use Rattle.ck_tree.specs.Plan.{IsPlan}
 use Rattle.ck_tree.specs.Writing.{write_changes}

@@ -1,7 +1,7 @@
 use Rattle.std.proofs.Common.{◌≡◌, ◌++◌, ◌&&◌, true, nat_eq, nat_le, IfSome, ap, subst, ◌∙◌, arith}
 use Rattle.std.proofs.lemmas.Bool.Decides.{nat_tests}
+use Rattle.ck_chain.proofs.KeysLeftLaws.{left_smaller}
 use Rattle.ck_tree.specs.Removing.{is_block_from, blocks_from, deletions}
-use Rattle.ck_chain.proofs.KeysLeft.{left_smaller}
 use Rattle.ck_tree.proofs.RemovingLemmas.{left_to_delete, deletions_first_left, deletions_next, deletions_last}
 use Rattle.ck_tree.proofs.removing.delete_blocks.Goals as goal
 

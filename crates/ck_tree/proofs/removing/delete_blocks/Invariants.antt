@@ -1,6 +1,6 @@
 use Rattle.std.proofs.Common.{◌≡◌, ◌++◌, true, IfSome}
+use Rattle.ck_chain.specs.Following.{keys_left}
 use Rattle.ck_tree.specs.Removing.{blocks_from, deletions, is_block_from}
-use Rattle.ck_chain.proofs.KeysLeft.{keys_left}
 use Rattle.ck_tree.proofs.RemovingLemmas.{left_to_delete}
 use Rattle.ck_tree.proofs.removing.delete_blocks.Given as goal
 

@@ -14,8 +14,8 @@ pub returns-clause-ours : goal.returns-clause-ours
 returns-clause-ours g c = record {
   lawful = g.met.M.Meta.lawful c.change-freed.new.meta;
   sized = g.met.M.Meta.sized c.change-freed.new.meta;
-  sound = c.change-freed.ensures.sound;
-  plain = λ id fileset is. c.requires.ours.plain id fileset (ap (λ m. map.get m id) (sym c.change-freed.ensures.filesets) ∙ is);
+  sound = c.change-freed.ensures.changed.sound;
+  plain = λ id fileset is. c.requires.ours.plain id fileset (ap (λ m. map.get m id) (sym c.change-freed.ensures.changed.filesets) ∙ is);
 }
 
 pub returns-clause-allocated : goal.returns-clause-allocated
@@ -24,8 +24,8 @@ returns-clause-allocated g c = λ rest unnamed allocated.
     let item = c.args.item.now in
     let new = value_after item c.args.stamp in
     allocated_after (g.M.Meta.table c.args.meta.now) (g.M.Meta.table c.change-freed.new.meta) c.change-freed.result (blocks_held new) rest e.freed
-    (λ block named. elim (e.named block named) [ inl was ↦ inl was | inr is ↦ inr (held_block new block is) ])
-    (λ block took. (0, (key_of item, ap block_of e.primary ∙ block_held new block took))) unnamed c.args.blocks.now c.give_up.new.blocks allocated e.blocks
+    (λ block named. elim (e.changed.named block named) [ inl was ↦ inl was | inr is ↦ inr (held_block new block is) ])
+    (λ block took. (0, (key_of item, ap block_of e.changed.primary ∙ block_held new block took))) unnamed c.args.blocks.now c.give_up.new.blocks allocated e.changed.blocks
     (record { given = c.give_up.ensures.given; partition = c.give_up.ensures.partition; same = c.give_up.ensures.same })
 
 pub returns-clause-busy : goal.returns-clause-busy

@@ -1,6 +1,8 @@
 use Rattle.std.proofs.Common.{◌≡◌, ◌+◌, suc, drop, drop-cons, ◌∷◌, sym, ap, subst, ◌∙◌, arith}
-use Rattle.ck_volume.specs.Changing.{changed_all, written_by}
-use Rattle.ck_volume.proofs.MadeLemmas.{MayMake, room_first, made_one, unnamed_all}
+use Rattle.ck_volume.specs.Changing.{written_by}
+use Rattle.ck_push.specs.Changes.{changed_all}
+use Rattle.ck_volume.proofs.MadeLemmas.{MayMake, made_one, unnamed_all}
+use Rattle.ck_push.proofs.RoomLaws.{room_first}
 use Rattle.ck_volume.proofs.applying.apply_all.Goals as goal
 
 pub apply-requires-clause-room : goal.apply-requires-clause-room

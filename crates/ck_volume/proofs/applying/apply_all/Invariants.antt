@@ -1,7 +1,7 @@
 use Rattle.std.proofs.Common.{◌≡◌, ◌≤◌, drop, length}
 use Rattle.ck_volume.specs.Allocating.{KeepsBusy}
 use Rattle.ck_volume.specs.Plain.{IsOurs}
-use Rattle.ck_volume.specs.Changing.{changed_all}
+use Rattle.ck_push.specs.Changes.{changed_all}
 use Rattle.ck_volume.proofs.MadeLemmas.{MayMake}
 use Rattle.ck_volume.proofs.applying.apply_all.Given as goal
 

@@ -3,9 +3,10 @@ use Rattle.std.specs.FinMap as map
 use Rattle.ck_model.specs.Table.{Table, spare_count}
 use Rattle.ck_model.specs.Rules.{IsSound}
 use Rattle.ck_push.specs.Growth.{gains, losses}
-use Rattle.ck_volume.specs.Changing.{raised, changed_all}
+use Rattle.ck_volume.specs.Changing.{raised}
+use Rattle.ck_push.specs.Changes.{changed_all}
 use Rattle.ck_volume.proofs.ChangingLemmas.{raised_lawful, raised_sound}
-use Rattle.ck_volume.proofs.ChangedLaws.{are_made}
+use Rattle.ck_push.proofs.ChangeLaws.{are_made}
 use Rattle.ck_volume.proofs.applying.change_all.Goals as goal
 
 pub apply_all-requires-clause-ours : goal.apply_all-requires-clause-ours

@@ -2,9 +2,11 @@ use Rattle.std.proofs.Common.{◌≡◌, ℕ, [], None, List, sym, ap, subst, �
 use Rattle.ck_model.specs.declared.entry.Entry.{Entry}
 use Rattle.ck_volume.specs.Causes.{HasCauses}
 use Rattle.ck_volume.specs.Cuts.{LeavesCuts}
-use Rattle.ck_volume.specs.Engine.{disk_of, history_of, broken_of, world_of, Runs}
+use Rattle.ck_volume.specs.Engine.{disk_of, history_of, broken_of, world_of}
+use Rattle.ck_disk.specs.Runs.{Runs}
 use Rattle.ck_volume.specs.Kept.{broken_by, BreaksFrom, Stands}
-use Rattle.ck_volume.proofs.CausesLemmas.{runs-none, causes-none}
+use Rattle.ck_volume.proofs.CausesLemmas.{causes-none}
+use Rattle.ck_disk.proofs.RunLaws.{runs-none}
 use Rattle.ck_volume.proofs.CutsLemmas.{cuts-begin}
 use Rattle.ck_volume.proofs.KeptLaws.{recovers-one}
 use Rattle.ck_volume.proofs.StandsLemmas.{or-entry, stands-begins}

@@ -7,7 +7,7 @@ use Rattle.ck_model.specs.Step.{answered}
 use Rattle.ck_model.specs.Values.{cells_on}
 use Rattle.ck_model.specs.Walk.{directory_at}
 use Rattle.ck_volume.specs.Room.{answered_with}
-use Rattle.ck_volume.proofs.Stands.{stands}
+use Rattle.ck_tree.proofs.StandingLaws.{stands_on as stands}
 use Rattle.ck_volume.proofs.names.names_in.Goals as goal
 
 pub returns-in_ok-found-in-Ok-clause-reply : goal.returns-in_ok-found-in-Ok-clause-reply

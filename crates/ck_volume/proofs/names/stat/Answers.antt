@@ -8,7 +8,7 @@ use Rattle.ck_model.specs.Values.{cells_on}
 use Rattle.ck_model.specs.Walk.{node_at}
 use Rattle.ck_volume.specs.Room.{answered_with}
 use Rattle.ck_volume.proofs.Ordinary.{if_ok_map}
-use Rattle.ck_volume.proofs.Stands.{stands}
+use Rattle.ck_tree.proofs.StandingLaws.{stands_on as stands}
 use Rattle.ck_volume.proofs.names.stat.Goals as goal
 
 pub returns-in-Ok-clause-reply : goal.returns-in-Ok-clause-reply

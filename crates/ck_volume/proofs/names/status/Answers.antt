@@ -6,7 +6,7 @@ use Rattle.ck_model.specs.Standing.{values_of}
 use Rattle.ck_model.specs.Values.{cells_on}
 use Rattle.ck_volume.proofs.NamesLemmas.{names-few}
 use Rattle.ck_volume.proofs.Ordinary.{no_store}
-use Rattle.ck_volume.proofs.Stands.{stands}
+use Rattle.ck_tree.proofs.StandingLaws.{stands_on as stands}
 use Rattle.ck_volume.proofs.names.status.Goals as goal
 
 pub overflow_cast-result : goal.overflow_cast-result

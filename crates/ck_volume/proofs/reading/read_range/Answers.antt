@@ -7,11 +7,13 @@ use Rattle.ck_model.specs.Reading.{file_byte}
 use Rattle.ck_model.specs.Rules.{block_in}
 use Rattle.ck_model.specs.Values.{cells_on}
 use Rattle.ck_volume.specs.Device.{store_on}
-use Rattle.ck_volume.proofs.Stands.{stands, value_below}
+use Rattle.ck_tree.proofs.StandingLaws.{stands_on as stands}
+use Rattle.ck_volume.proofs.Stands.{value_below}
 use Rattle.ck_model.specs.declared.key.Key.TheVariants.{Block}
 use Rattle.ck_model.specs.Standing.{values_of}
-use Rattle.ck_model.proofs.ValuesOf.{get-values_of}
-use Rattle.ck_volume.proofs.ReadingLemmas.{reads_on, range_more}
+use Rattle.ck_model.proofs.ValueLaws.{get-values_of}
+use Rattle.ck_volume.proofs.ReadingLemmas.{range_more}
+use Rattle.ck_disk.proofs.RunLaws.{reads_on}
 use Rattle.ck_volume.proofs.reading.read_range.Goals as goal
 
 pub loop-place-preserved : goal.loop-place-preserved

@@ -4,7 +4,7 @@ use Rattle.ck_model.specs.Reading.{file_byte}
 use Rattle.ck_model.specs.Values.{cells_on}
 use Rattle.ck_model.specs.Standing.{values_of}
 use Rattle.ck_volume.specs.Device.{store_on}
-use Rattle.ck_volume.specs.Reading.{OnlyReads}
+use Rattle.ck_disk.specs.Runs.{OnlyReads}
 use Rattle.ck_volume.proofs.reading.read_range.Given as goal
 
 abbrev pub invariant-loop-place : goal.invariant-loop-place

@@ -8,7 +8,7 @@ use Rattle.ck_model.specs.Values.{cells_on}
 use Rattle.ck_model.specs.Standing.{values_of}
 use Rattle.ck_volume.specs.Device.{store_on}
 use Rattle.ck_volume.specs.Room.{answered_with}
-use Rattle.ck_volume.proofs.Stands.{stands}
+use Rattle.ck_tree.proofs.StandingLaws.{stands_on as stands}
 use Rattle.ck_volume.proofs.reads.range_in.Goals as goal
 
 pub returns-in_ok-bytes-in-Ok-clause-reply : goal.returns-in_ok-bytes-in-Ok-clause-reply

@@ -4,7 +4,8 @@ use Rattle.std.specs.FinSet as set
 use Rattle.ck_model.specs.declared.checkpoint.Counters.{Counters}
 use Rattle.ck_model.specs.Held.{IsCounters}
 use Rattle.ck_tree.specs.Plan.{numbers_after}
-use Rattle.ck_volume.specs.Changing.{IsRaised, MayChangeAll, changed_all, raised}
+use Rattle.ck_volume.specs.Changing.{IsRaised, raised}
+use Rattle.ck_push.specs.Changes.{MayChangeAll, changed_all}
 use Rattle.ck_volume.specs.Device.{store_on}
 use Rattle.ck_volume.proofs.PlacingLemmas.{planned_up, planned_raised, stored_first, stored_room, stored_may, stored_allocated, stored-done}
 use Rattle.ck_volume.proofs.SafeLemmas.{kept_there}

@@ -1,5 +1,5 @@
 use Rattle.std.proofs.Common.{arith}
-use Rattle.ck_disk.proofs.Moments.{set_same}
+use Rattle.ck_disk.proofs.MomentLaws.{set_same}
 use Rattle.ck_disk.proofs.Losing.{lost_crash, lost_marks, lost_counts, lost_step}
 use Rattle.ck_disk.proofs.fuse_disk.FuseDiskDisk.write.Goals as goal
 

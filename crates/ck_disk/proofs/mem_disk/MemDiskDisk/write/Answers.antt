@@ -1,7 +1,7 @@
 use Rattle.std.proofs.Common.{◌≡◌, [], get_or, refl, arith}
 use Rattle.std.proofs.lemmas.List.{length-set, get_or_read}
 use Rattle.ck_disk.specs.declared.mem_disk.MemStep.TheVariants.{Write}
-use Rattle.ck_disk.proofs.Moments.{set_same}
+use Rattle.ck_disk.proofs.MomentLaws.{set_same}
 use Rattle.ck_disk.proofs.Steps.{marks_write, pushed_to, torn_to, undo_write, failed_torn, failed_marks, failed_step}
 use Rattle.ck_disk.proofs.mem_disk.MemDiskDisk.write.Goals as goal
 

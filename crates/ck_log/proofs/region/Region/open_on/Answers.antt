@@ -1,7 +1,7 @@
 use Rattle.std.proofs.Common.{IsTrue, sym, ◌∙◌, ap}
 use Rattle.ck_log.specs.Images.{names_second}
 use Rattle.ck_log.proofs.Commits.{told_on}
-use Rattle.ck_log.proofs.Recovery.{recovered_read}
+use Rattle.ck_log.proofs.RecoveryLaws.{recovered_read}
 use Rattle.ck_log.proofs.region.Region.open_on.Goals as goal
 
 pub returns-in-Ok-clause-opens : goal.returns-in-Ok-clause-opens

@@ -1,5 +1,5 @@
 use Rattle.std.proofs.Common.{◌<◌, IsTrue, not, length, refl, sym, arith}
-use Rattle.ck_log.proofs.Areas.{area_high, first_area-low}
+use Rattle.ck_log.proofs.AreaLaws.{area_high, first_area-low}
 use Rattle.ck_log.proofs.Phases.{committed}
 use Rattle.ck_log.proofs.Commits.{told_on, settles, after_run, after_gate, in_area, others_after_run, others_after_gate}
 use Rattle.ck_log.proofs.region.Region.put_table.Goals as goal

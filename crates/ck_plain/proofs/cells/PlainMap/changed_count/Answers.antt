@@ -1,5 +1,5 @@
 use Rattle.std.proofs.Common.{rules}
-use Rattle.ck_model.proofs.Differences.{is_new_in}
+use Rattle.ck_model.specs.Cells.{is_new_in}
 use Rattle.ck_plain.proofs.Counting.{counted}
 use Rattle.ck_plain.proofs.cells.PlainMap.changed_count.Goals as goal
 

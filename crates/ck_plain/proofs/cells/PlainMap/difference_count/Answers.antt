@@ -1,7 +1,8 @@
 use Rattle.std.proofs.Common.{arith}
 use Rattle.ck_model.specs.Key.{key_cmp_total, key_cmp_exact}
-use Rattle.ck_model.proofs.Sizes.{len-retain_keys-le}
-use Rattle.ck_model.proofs.Differences.{is_new_in, is_gone_in, len-differences}
+use Rattle.ck_model.specs.Cells.{is_new_in, is_gone_in}
+use Rattle.ck_model.proofs.SizeLaws.{len-retain_keys-le}
+use Rattle.ck_model.proofs.DifferenceLaws.{len-differences}
 use Rattle.ck_plain.proofs.cells.PlainMap.difference_count.Goals as goal
 
 pub overflow_add-result : goal.overflow_add-result

@@ -1,15 +1,14 @@
-use Rattle.std.proofs.Common.{◌≡◌, ◌+◌, true, false, List, [], ◌∷◌, ◌++◌, length, vec_len, map as list_map, refl, sym, ap, ◌∙◌, arith, rules}
+use Rattle.std.proofs.Common.{◌≡◌, ◌+◌, true, false, List, [], ◌∷◌, ◌++◌, length, vec_len, map as list_map, sym, ap, ◌∙◌, arith, rules}
 use Rattle.std.specs.FinMap as map
 use Rattle.std.proofs.lemmas.List.{length-map}
 use Rattle.ck_model.specs.declared.reply.Reply.{Reply}
 use Rattle.ck_model.specs.declared.reply.Reply.TheVariants.{Created}
 use Rattle.ck_model.specs.Cells.{Cells}
-use Rattle.ck_model.specs.World.{World, Checkpoint, shown_by}
+use Rattle.ck_model.specs.World.{Checkpoint, shown_by}
 use Rattle.ck_model.specs.Freezing.{kind_of, frozen_world}
-use Rattle.ck_model.specs.Step.{Outcome, with_room}
-use Rattle.ck_model.proofs.Differences.{len-shown_by}
+use Rattle.ck_model.proofs.DifferenceLaws.{len-shown_by}
 use Rattle.ck_plain.specs.Plain.{checkpoint_of, world_of}
-use Rattle.ck_plain.specs.Room.{Ask, has_room, picks_for}
+use Rattle.ck_plain.specs.Room.{has_room, picks_for}
 use Rattle.ck_plain.proofs.Lists.{map_append}
 use Rattle.ck_plain.proofs.Asking.{Gives, beside, frozen_ask, frozen-asked, with_room-fits, with_room-full}
 use Rattle.ck_plain.proofs.world.Plain.freeze.Goals as goal

@@ -6,7 +6,7 @@ use Rattle.ck_model.specs.declared.cell.Payload.TheVariants.{Dir}
 use Rattle.ck_model.specs.Key.{key_cmp, key_cmp_total, key_cmp_exact}
 use Rattle.ck_model.specs.Cells.{Cells}
 use Rattle.ck_model.specs.Changes.{cell_of}
-use Rattle.ck_model.proofs.Sizes.{len-insert-le}
+use Rattle.ck_model.proofs.SizeLaws.{len-insert-le}
 use Rattle.ck_plain.proofs.world.Plain.new.Goals as goal
 
 pub invariant_of-result : goal.invariant_of-result

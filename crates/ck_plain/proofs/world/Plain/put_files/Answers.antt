@@ -1,17 +1,16 @@
-use Rattle.std.proofs.Common.{◌≡◌, ◌≤◌, ◌<◌, ◌^◌, true, false, List, length, vec_len, map as list_map, refl, sym, ap, ◌∙◌, arith, rules}
+use Rattle.std.proofs.Common.{◌≡◌, true, false, length, vec_len, map as list_map, sym, ap, ◌∙◌, arith, rules}
 use Rattle.std.specs.FinMap as map
 use Rattle.std.proofs.lemmas.List.{length-map}
 use Rattle.ck_model.specs.declared.reply.Reply.{Reply}
 use Rattle.ck_model.specs.declared.reply.Reply.TheVariants.{Done}
 use Rattle.ck_model.specs.Key.{key_cmp_total, key_cmp_exact}
-use Rattle.ck_model.specs.World.{World, Checkpoint}
 use Rattle.ck_model.specs.Space.{is_new_block}
-use Rattle.ck_model.specs.Step.{Outcome, with_room}
-use Rattle.ck_model.proofs.Sizes.{len-retain_keys-le}
+use Rattle.ck_model.specs.Step.{with_room}
+use Rattle.ck_model.proofs.SizeLaws.{len-retain_keys-le}
 use Rattle.ck_plain.specs.Plain.{checkpoint_of, world_of}
 use Rattle.ck_plain.specs.Changed.{with_next}
 use Rattle.ck_plain.specs.Outcome.{with_files}
-use Rattle.ck_plain.specs.Room.{Ask, has_room, picks_for}
+use Rattle.ck_plain.specs.Room.{has_room, picks_for}
 use Rattle.ck_plain.proofs.Asking.{Gives, beside, files_ask, files-asked, with_room-fits, with_room-full}
 use Rattle.ck_plain.proofs.world.Plain.put_files.Goals as goal
 

@@ -1,6 +1,6 @@
 use Rattle.std.proofs.Common.{arith}
 use Rattle.ck_model.specs.Key.{entry_cmp_total, entry_cmp_exact}
-use Rattle.ck_model.proofs.Places.{get_gap}
+use Rattle.ck_model.proofs.PlaceLaws.{get_gap}
 use Rattle.ck_slots.specs.Arranged.{arranged}
 use Rattle.ck_slots.specs.Order.{numbers_in, index_in}
 use Rattle.ck_slots.proofs.EntryLemmas.{number_in_range, held_there}

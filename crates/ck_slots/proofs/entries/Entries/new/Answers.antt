@@ -1,5 +1,5 @@
 use Rattle.std.proofs.Common.{ap, ◌∙◌}
-use Rattle.ck_model.proofs.Places.{from_nothing}
+use Rattle.ck_model.proofs.PlaceLaws.{from_nothing}
 use Rattle.ck_slots.specs.Arranged.{entries_of}
 use Rattle.ck_slots.proofs.entries.Entries.new.Goals as goal
 

@@ -2,7 +2,7 @@ use Rattle.std.proofs.Common.{arith, sym, subst, inl, inr, IsSome}
 use mathlib.Core.Bool.{false≢true}
 use Rattle.std.proofs.lemmas.List.{length-set}
 use Rattle.ck_model.specs.Key.{entry_cmp_total, entry_cmp_exact}
-use Rattle.ck_model.proofs.Places.{get_gap}
+use Rattle.ck_model.proofs.PlaceLaws.{get_gap}
 use Rattle.ck_slots.specs.Arranged.{arranged, StandOnce}
 use Rattle.ck_slots.specs.Order.{numbers_in, index_in}
 use Rattle.ck_slots.proofs.ArrangedLemmas.{len-entries_of}

@@ -1,7 +1,7 @@
 use Rattle.std.proofs.Common.{length, sym, subst}
 use Rattle.std.specs.List.{remove}
 use Rattle.ck_model.specs.Key.{entry_cmp_total, entry_cmp_exact}
-use Rattle.ck_model.proofs.Places.{unset_gap}
+use Rattle.ck_model.proofs.PlaceLaws.{unset_gap}
 use Rattle.ck_slots.specs.Arranged.{arranged, StandOnce}
 use Rattle.ck_slots.specs.Order.{numbers_in, index_in}
 use Rattle.ck_slots.proofs.EntryLemmas.{taken_out, once_taken_out}

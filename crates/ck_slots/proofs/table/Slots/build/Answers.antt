@@ -1,7 +1,7 @@
 use Rattle.std.proofs.Common.{◌≡◌, sym, subst, ◌∙◌, arith}
 use Rattle.ck_model.specs.Table.{IsTable, IsSized}
 use Rattle.ck_area.specs.Area.{table_of as area_table}
-use Rattle.ck_area.proofs.TableOf.{table_within, undamaged_few, undamaged_sized}
+use Rattle.ck_area.proofs.TableLaws.{table_within, undamaged_few, undamaged_sized}
 use Rattle.ck_slots.specs.Lawful.{table_of}
 use Rattle.ck_slots.proofs.BuildingLemmas.{same_table}
 use Rattle.ck_slots.proofs.table.Slots.build.Goals as goal

@@ -4,7 +4,7 @@ use Rattle.std.specs.Ordering.{nat_cmp}
 use Rattle.std.specs.Cmp.{nat_cmp_total}
 use Rattle.std.specs.FinMap.{nat_cmp-IsAntisymmetric, entries-from_sorted}
 use Rattle.std.proofs.lemmas.Option.{slice_get-get_or}
-use Rattle.ck_model.proofs.Places.{len_of}
+use Rattle.ck_model.proofs.PlaceLaws.{len_of}
 use Rattle.ck_slots.proofs.table.Slots.fileset_at.Goals as goal
 
 pub index-requires : goal.index-requires

@@ -1,7 +1,7 @@
 use Rattle.std.proofs.Common.{arith}
 use Rattle.std.specs.Cmp.{nat_cmp_total}
 use Rattle.std.specs.FinMap.{nat_cmp-IsAntisymmetric}
-use Rattle.ck_model.proofs.Places.{len_of}
+use Rattle.ck_model.proofs.PlaceLaws.{len_of}
 use Rattle.ck_slots.proofs.table.Slots.fileset_count.Goals as goal
 
 pub overflow_cast-result : goal.overflow_cast-result

@@ -8,8 +8,8 @@ use Rattle.ck_model.specs.Rules.{IsSound}
 use Rattle.ck_log.specs.Layout.{table_blocks}
 use Rattle.ck_log.specs.FirstTable.{first_table}
 use Rattle.ck_area.specs.Area.{AreSlots}
-use Rattle.ck_area.proofs.NewTable.{new_table_within, new_table_sized, new_table_sound}
-use Rattle.ck_area.proofs.NewWorld.{new_stands}
+use Rattle.ck_area.proofs.NewTableLaws.{new_table_within, new_table_sized, new_table_sound}
+use Rattle.ck_area.proofs.NewWorldLaws.{new_stands}
 use Rattle.ck_slots.specs.Formatted.{StandsForEmpty}
 use Rattle.ck_slots.specs.Written.{slots_of}
 use Rattle.ck_slots.proofs.FirstLemmas.{first_are_slots}

@@ -1,12 +1,11 @@
 use Rattle.std.proofs.Common.{sym, subst, ap, ◌∙◌}
 use Rattle.ck_model.specs.Table.{Table}
-use Rattle.ck_area.specs.Damage.{is_unbuilt}
-use Rattle.ck_area.proofs.WrittenLemmas.{built_read}
-use Rattle.ck_slots.specs.Opened.{IsBuilt}
 use Rattle.ck_model.specs.Rules.{IsSound}
+use Rattle.ck_area.specs.Damage.{is_unbuilt, damage}
 use Rattle.ck_area.specs.Area.{table_of as area_table}
-use Rattle.ck_area.specs.Damage.{damage}
-use Rattle.ck_area.proofs.TableOf.{records_of_slots, undamaged_sound}
+use Rattle.ck_area.proofs.WrittenLaws.{built_read}
+use Rattle.ck_area.proofs.TableLaws.{records_of_slots, undamaged_sound}
+use Rattle.ck_slots.specs.Opened.{IsBuilt}
 use Rattle.ck_slots.specs.Building.{AreRecords}
 use Rattle.ck_slots.proofs.table.Slots.open.Goals as goal
 

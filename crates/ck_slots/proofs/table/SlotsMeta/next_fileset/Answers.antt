@@ -1,7 +1,7 @@
 use Rattle.std.proofs.Common.{◌≡◌, ◌∷◌, [], ℕ, List, MatchOption, filter, nat_lt, sym, subst}
 use Rattle.std.specs.Cmp.{nat_cmp_total}
 use Rattle.std.specs.FinMap.{nat_cmp-IsAntisymmetric}
-use Rattle.ck_model.proofs.Places.{keys_are}
+use Rattle.ck_model.proofs.PlaceLaws.{keys_are}
 use Rattle.ck_slots.specs.Recorded.{ids_behind}
 use Rattle.ck_slots.proofs.table.SlotsMeta.next_fileset.Goals as goal
 

@@ -3,7 +3,7 @@ use Rattle.std.specs.Cmp.{nat_cmp_total}
 use Rattle.std.specs.FinMap.{nat_cmp-IsAntisymmetric}
 use Rattle.ck_model.specs.Held.{IsFileset}
 use Rattle.ck_model.specs.Table.{IsTable, IsSized}
-use Rattle.ck_model.proofs.Places.{len_of}
+use Rattle.ck_model.proofs.PlaceLaws.{len_of}
 use Rattle.ck_slots.specs.Slots.{table_in}
 use Rattle.ck_slots.specs.Recorded.{filesets_of}
 use Rattle.ck_slots.proofs.TableLemmas.{IsTable-with_fileset, IsSized-with_fileset, recorded_in, as_given}

@@ -3,7 +3,7 @@ use Rattle.ck_model.specs.declared.call.Call.{Call}
 use Rattle.ck_model.specs.Step.{changing, step}
 use Rattle.ck_model.specs.Streams.{Texts}
 use Rattle.ck_model.specs.World.{World}
-use Rattle.ck_tree.specs.Plan.{changed_by}
+use Rattle.ck_model.specs.Changing.{changed_by}
 use Rattle.ck_volume.specs.Engine.{world_of}
 use Rattle.ck_volume.proofs.Ordinary.{if_ok_map}
 use Rattle.ck_volume.proofs.engine.Engine.attempt.Goals as goal

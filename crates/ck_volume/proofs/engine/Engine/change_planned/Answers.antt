@@ -6,7 +6,7 @@ use Rattle.ck_volume.specs.Storing.{OnlyStores}
 use Rattle.ck_model.specs.declared.reply.Reply.TheVariants.{Done}
 use Rattle.ck_model.specs.Standing.{world_on}
 use Rattle.ck_model.specs.Step.{changing}
-use Rattle.ck_tree.specs.Plan.{changed_by}
+use Rattle.ck_model.specs.Changing.{changed_by}
 use Rattle.ck_volume.specs.Device.{store_on}
 use Rattle.ck_volume.specs.Room.{answered_with}
 use Rattle.ck_volume.specs.Engine.{table_of, mounts_of, blocks_of, data_of, world_of}

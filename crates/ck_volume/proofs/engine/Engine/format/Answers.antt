@@ -2,7 +2,8 @@ use Rattle.std.proofs.Common.{refl}
 use Rattle.ck_log.specs.FirstTable.{new_layout, FormatLeaves}
 use Rattle.ck_slots.specs.Slots.{table_in}
 use Rattle.ck_volume.specs.Plain.{IsOurs}
-use Rattle.ck_volume.proofs.FormatLemmas.{plain_new, runs_of, volume-formatted}
+use Rattle.ck_volume.proofs.FormatLemmas.{plain_new, volume-formatted}
+use Rattle.ck_disk.proofs.RunLaws.{runs_of}
 use Rattle.ck_volume.proofs.engine.Engine.format.Goals as goal
 
 pub blocks_in-requires : goal.blocks_in-requires

@@ -1,6 +1,6 @@
 use Rattle.std.proofs.Common.{refl}
 use Rattle.ck_volume.specs.Plain.{IsOurs}
-use Rattle.ck_volume.specs.Reading.{OnlyReads}
+use Rattle.ck_disk.specs.Runs.{OnlyReads}
 use Rattle.ck_slots.specs.Slots.{table_in}
 use Rattle.ck_volume.proofs.OpenLemmas.{plain_built, volume-opened}
 use Rattle.ck_volume.proofs.engine.Engine.open_in.Goals as goal

@@ -8,7 +8,8 @@ use Rattle.ck_volume.specs.Closing.{committed_after, spoilt_after}
 use Rattle.ck_volume.specs.Engine.{disk_of, history_of, broken_of, world_of}
 use Rattle.ck_volume.specs.Kept.{broken_by, BreaksFrom}
 use Rattle.ck_volume.specs.Told.{told_of}
-use Rattle.ck_volume.proofs.CausesLemmas.{causes-still, runs-more}
+use Rattle.ck_volume.proofs.CausesLemmas.{causes-still}
+use Rattle.ck_disk.proofs.RunLaws.{runs-more}
 use Rattle.ck_volume.proofs.CutsAfter.{cuts-commit, unbroken-done}
 use Rattle.ck_volume.proofs.ExactKnown.{exact-known}
 use Rattle.ck_volume.proofs.StandsLemmas.{breaks-commit, within-commit, stands-still}

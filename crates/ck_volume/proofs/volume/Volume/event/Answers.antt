@@ -5,7 +5,8 @@ use Rattle.ck_volume.specs.Causes.{HasCauses, acknowledges}
 use Rattle.ck_volume.specs.Engine.{disk_of, history_of, broken_of, newest}
 use Rattle.ck_volume.specs.Kept.{broken_by}
 use Rattle.ck_volume.specs.Told.{told_of}
-use Rattle.ck_volume.proofs.CausesLemmas.{causes-more, runs-more}
+use Rattle.ck_volume.proofs.CausesLemmas.{causes-more}
+use Rattle.ck_disk.proofs.RunLaws.{runs-more}
 use Rattle.ck_volume.proofs.CutsAfter.{cuts-event}
 use Rattle.ck_volume.proofs.Following.{longer-put}
 use Rattle.ck_volume.proofs.StandsLemmas.{by-entry, or-entry, broken-goes, within-event, replies-more, stands-told}

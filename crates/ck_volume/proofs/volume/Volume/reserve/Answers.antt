@@ -3,7 +3,8 @@ use Rattle.std.specs.Option.{option_or}
 use mathlib.Core.Logic.{∥∥₁_map}
 use Rattle.ck_model.specs.declared.entry.Entry.{Entry}
 use Rattle.ck_volume.specs.Causes.{HasCauses}
-use Rattle.ck_volume.specs.Engine.{disk_of, history_of, broken_of, world_of, Runs}
+use Rattle.ck_volume.specs.Engine.{disk_of, history_of, broken_of, world_of}
+use Rattle.ck_disk.specs.Runs.{Runs}
 use Rattle.ck_volume.specs.declared.engine.Engine.{Engine}
 use Rattle.ck_volume.specs.Kept.{broken_by, BreaksFrom}
 use Rattle.ck_volume.specs.Told.{told_of}

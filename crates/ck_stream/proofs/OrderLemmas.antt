@@ -1,0 +1,1 @@
+-- Bytes in order, some at a time.

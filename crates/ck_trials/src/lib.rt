@@ -1,0 +1,29 @@
+//! Tests by public names of the crates below the volume: what the built programs can't show.
+#![tactic(auto)]
+
+#[cfg(test)]
+mod areas;
+#[cfg(test)]
+mod blocks;
+#[cfg(test)]
+mod devices;
+#[cfg(test)]
+mod histories;
+#[cfg(test)]
+mod listings;
+#[cfg(test)]
+mod numbers;
+#[cfg(test)]
+mod records;
+#[cfg(test)]
+mod regions;
+#[cfg(test)]
+mod scripts;
+#[cfg(test)]
+mod sources;
+#[cfg(test)]
+mod streams;
+#[cfg(test)]
+mod tables;
+#[cfg(test)]
+mod texts;
