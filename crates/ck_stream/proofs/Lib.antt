@@ -9,5 +9,4 @@ pub mod HeaderLemmas
 pub mod StreamLemmas
 pub mod SeenLemmas
 pub mod ByKeyLaws
-pub mod Backups
 pub mod TextsLaws
