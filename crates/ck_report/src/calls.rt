@@ -109,7 +109,12 @@ fn put_flag(out: &mut Vec<u8>, flag: bool, text: &[u8]) -> Result<(), NoMemory>
     if flag { put_word(out, text) } else { Ok(()) }
 }
 
-fn put_create(out: &mut Vec<u8>, name: &NameBytes, nodata: bool, removable: bool) -> Result<(), NoMemory>
+fn put_create(
+    out: &mut Vec<u8>,
+    name: &NameBytes,
+    nodata: bool,
+    removable: bool,
+) -> Result<(), NoMemory>
     ensures { OnOk result (out.new.items ≡ out.old.items ++ call_words (calls.Create name.now nodata removable)) }
 {
     put(out, b"create")?;
