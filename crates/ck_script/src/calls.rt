@@ -25,7 +25,10 @@ fn name_alone(words: &[&[u8]]) -> Result<NameBytes, Refusal>
     ensures { Answers (lone_name (list_map (λ word. word.now) words.now)) result }
 {
     match words {
-        [name] => checkpoint_name(name).ok_or(Refusal::NotThis),
+        [name] => match checkpoint_name(name) {
+            Some(name) => Ok(name),
+            None => Err(Refusal::NotThis),
+        },
         _ => Err(Refusal::NotThis),
     }
 }
@@ -52,7 +55,10 @@ fn alone(call: Call, words: &[&[u8]]) -> Result<Call, Refusal>
 fn required(call: Option<Call>) -> Result<Call, Refusal>
     ensures { Answers call result }
 {
-    call.ok_or(Refusal::NotThis)
+    match call {
+        Some(call) => Ok(call),
+        None => Err(Refusal::NotThis),
+    }
 }
 
 fn call_with(alloc: Global, verb: Verb, words: &[&[u8]]) -> Result<Call, Refusal>
