@@ -21,34 +21,44 @@ fn path_alone(alloc: Global, words: &[&[u8]]) -> Result<Path, Refusal>
     }
 }
 
-fn name_alone(words: &[&[u8]]) -> Option<NameBytes>
-    ensures { result ≡ lone_name (list_map (λ word. word.now) words.now) }
+fn name_alone(words: &[&[u8]]) -> Result<NameBytes, Refusal>
+    ensures { Answers (lone_name (list_map (λ word. word.now) words.now)) result }
 {
     match words {
-        [name] => checkpoint_name(name),
-        _ => None,
+        [name] => match checkpoint_name(name) {
+            Some(name) => Ok(name),
+            None => Err(Refusal::NotThis),
+        },
+        _ => Err(Refusal::NotThis),
     }
 }
 
-fn letter_alone(words: &[&[u8]]) -> Option<u8>
-    ensures { result ≡ lone_letter (list_map (λ word. word.now) words.now) }
+fn letter_alone(words: &[&[u8]]) -> Result<u8, Refusal>
+    ensures { Answers (lone_letter (list_map (λ word. word.now) words.now)) result }
 {
     match words {
-        [letter] => letter_of(letter),
-        _ => None,
+        [letter] => letter_of(letter).ok_or(Refusal::NotThis),
+        _ => Err(Refusal::NotThis),
     }
 }
 
-fn alone(call: Call, words: &[&[u8]]) -> Option<Call>
-    ensures { result ≡ lone_call call (list_map (λ word. word.now) words.now) }
+fn alone(call: Call, words: &[&[u8]]) -> Result<Call, Refusal>
+    ensures { Answers (lone_call call (list_map (λ word. word.now) words.now)) result }
 {
-    if words.is_empty() { Some(call) } else { None }
+    if words.is_empty() {
+        Ok(call)
+    } else {
+        Err(Refusal::NotThis)
+    }
 }
 
 fn required(call: Option<Call>) -> Result<Call, Refusal>
     ensures { Answers call result }
 {
-    call.ok_or(Refusal::NotThis)
+    match call {
+        Some(call) => Ok(call),
+        None => Err(Refusal::NotThis),
+    }
 }
 
 fn call_with(alloc: Global, verb: Verb, words: &[&[u8]]) -> Result<Call, Refusal>
@@ -67,19 +77,19 @@ fn call_with(alloc: Global, verb: Verb, words: &[&[u8]]) -> Result<Call, Refusal
         Verb::Ls => Ok(Call::List(path_alone(alloc, words)?)),
         Verb::Stat => Ok(Call::Stat(path_alone(alloc, words)?)),
         Verb::Create => required(create_of(words)),
-        Verb::Remove => required(name_alone(words).map(Call::Remove)),
+        Verb::Remove => Ok(Call::Remove(name_alone(words)?)),
         Verb::Nodata => required(nodata_of(words)),
         Verb::Removable => required(removable_of(words)),
-        Verb::Ckpts => required(alone(Call::Ckpts, words)),
+        Verb::Ckpts => alone(Call::Ckpts, words),
         Verb::Mount => required(mount_of(words)),
-        Verb::Umount => required(letter_alone(words).map(Call::Umount)),
+        Verb::Umount => Ok(Call::Umount(letter_alone(words)?)),
         Verb::Cread => cread_of(alloc, words),
         Verb::Cls => cls_of(alloc, words),
-        Verb::Restore => required(name_alone(words).map(Call::Restore)),
+        Verb::Restore => Ok(Call::Restore(name_alone(words)?)),
         Verb::Backup => required(backup_of(words)),
-        Verb::Full => required(letter_alone(words).map(Call::Full)),
-        Verb::Info => required(alone(Call::Info, words)),
-        Verb::Sync => required(alone(Call::Sync, words)),
+        Verb::Full => Ok(Call::Full(letter_alone(words)?)),
+        Verb::Info => alone(Call::Info, words),
+        Verb::Sync => alone(Call::Sync, words),
     }
 }
 

@@ -5,7 +5,7 @@ use ck_model::NoMemory;
 use std::alloc::{AllocError, AllocFailed};
 
 /// Why words aren't read as what they were asked for.
-#[derive(Debug, Drop, Clone, Copy, PartialEq, Eq)]
+#[derive(Drop, Clone, Copy)]
 pub enum Refusal {
     /// The grammar has no such thing.
     NotThis,

@@ -5,7 +5,7 @@ ghost use Rattle.ck_script.specs.Verb.{verb_text, verb_of as verb_in};
 use crate::arguments::is_text;
 
 /// What a call is named by.
-#[derive(Clone, Copy, Debug)]
+#[derive(Clone, Copy)]
 pub enum Verb {
     Make,
     Mkdir,
