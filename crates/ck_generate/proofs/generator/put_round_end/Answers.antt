@@ -1,3 +1,4 @@
+use Rattle.ck_text.proofs.AppendLaws.{appended_five}
 use Rattle.std.proofs.lemmas.Result.{on_ok_weaker}
 use Rattle.ck_generate.proofs.generator.put_round_end.Goals as goal
 
