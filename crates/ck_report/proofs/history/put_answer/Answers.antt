@@ -1,6 +1,5 @@
 use Rattle.ck_text.proofs.AppendLaws.{appended_five}
 use Rattle.ck_report.specs.Transcript.{answer_text}
-use Rattle.ck_text.proofs.AppendLaws.{appended_five}
 use Rattle.ck_report.proofs.history.put_answer.Goals as goal
 
 pub returns-clause-text : goal.returns-clause-text

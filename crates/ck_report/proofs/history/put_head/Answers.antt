@@ -1,6 +1,5 @@
 use Rattle.ck_text.proofs.AppendLaws.{appended_five}
 use Rattle.ck_report.specs.Transcript.{entry_head}
-use Rattle.ck_text.proofs.AppendLaws.{appended_five}
 use Rattle.ck_report.proofs.history.put_head.Goals as goal
 
 pub returns-clause-text : goal.returns-clause-text

@@ -1,6 +1,5 @@
 use Rattle.ck_text.proofs.AppendLaws.{appended_three}
 use Rattle.ck_report.specs.Words.{counts_words}
-use Rattle.ck_text.proofs.AppendLaws.{appended_three}
 use Rattle.ck_report.proofs.replies.put_counts.Goals as goal
 
 pub returns : goal.returns

@@ -1,6 +1,5 @@
 use Rattle.ck_text.proofs.AppendLaws.{appended_four}
 use Rattle.ck_report.specs.Words.{stream_words}
-use Rattle.ck_text.proofs.AppendLaws.{appended_four}
 use Rattle.ck_report.proofs.replies.put_stream.Goals as goal
 
 pub returns-clause-text : goal.returns-clause-text
