@@ -1,5 +1,6 @@
 // How a script's calls are numbered, and a script that is generated.
-use ck_script::{generate, parse};
+use ck_generate::generate;
+use ck_script::parse;
 use std::test::Fail;
 
 #[test]
