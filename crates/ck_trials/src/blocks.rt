@@ -1,19 +1,6 @@
+// Data blocks that are released, or given back unused.
 use ck_alloc::Blocks;
 use std::test::Fail;
-
-#[test]
-fn gives_the_lowest_free_block(rt: HostRuntime) -> Result<(), Fail> {
-    let mut blocks = Blocks::rebuild(rt.alloc(), 4200, [1, 4, 4].as_slice())?;
-    assert_eq!(rt; blocks.free(), 4198);
-    for at in 0..4200 {
-        if at != 1 && at != 4 {
-            assert_eq!(rt; blocks.take(), Some(at));
-        }
-    }
-    assert_eq!(rt; blocks.take(), None);
-    assert_eq!(rt; blocks.free(), 0);
-    Ok(())
-}
 
 #[test]
 #[tactic(auto, using(ck_alloc::proofs::BlockLaws::block_laws))]

@@ -1,7 +1,6 @@
 // The devices, called as a layer above calls them. A script of six calls shows which of them answer Ok.
-ghost use Rattle.std.specs.Prelude.{◌≡◌, ◌<◌, ◌^◌, length, IfOk};
+ghost use Rattle.std.specs.Prelude.{◌≡◌, ◌<◌, length, IfOk};
 ghost use Rattle.ck_disk.specs.MemDisk.{meaning};
-ghost use Rattle.ck_disk.specs.Silent.{silent, silent_lawful};
 
 use ck_disk::{Block, Disk, Failed, FileDisk, FuseDisk, MemDisk, NoMemory, Torn};
 use std::alloc::Global;
@@ -9,51 +8,6 @@ use std::fs::{self, OpenOptions};
 use std::path::PathBuf;
 use std::test::Fail;
 use std::{env, io, process};
-
-/// A disk that tells nothing: it takes each write and keeps none.
-#[derive(Drop)]
-struct Silent {
-    size: u32,
-    works: bool,
-    read_faults: u64,
-    write_faults: u64,
-    ghost fits: { size < 2 ^ 32 },
-}
-
-impl Disk for Silent {
-    ghost means = { λ d. silent d.size d.read_faults d.write_faults };
-
-    ghost lawful = { λ d. silent_lawful d.size d.read_faults d.write_faults d.fits };
-
-    fn blocks(&self) -> u32 {
-        self.size
-    }
-
-    fn read(&mut self, _at: u32, into: &mut Block) -> Result<(), Failed> {
-        if !self.works {
-            self.read_faults = self.read_faults.saturating_add(1);
-            return Err(Failed);
-        }
-        *into = [9; 4096];
-        Ok(())
-    }
-
-    fn write(&mut self, _at: u32, _from: &Block) -> Result<(), Failed> {
-        if !self.works {
-            self.write_faults = self.write_faults.saturating_add(1);
-            return Err(Failed);
-        }
-        Ok(())
-    }
-
-    fn sync(&mut self) -> Result<(), Failed> {
-        if !self.works {
-            self.write_faults = self.write_faults.saturating_add(1);
-            return Err(Failed);
-        }
-        Ok(())
-    }
-}
 
 /// Writes block 0, reads it, writes block 1, syncs, reads block 1 and writes block 2.
 fn run<D: Disk>(disk: &mut D, into: &mut Block) -> [bool; 6]
@@ -164,20 +118,6 @@ fn a_fuse_passes_so_many_calls(rt: HostRuntime) -> Result<(), Fail> {
         assert!(rt; has_blocks(disk.into_inner().image(), &blocks));
     }
     Ok(())
-}
-
-#[test]
-fn a_silent_disk_meets_the_bound(rt: HostRuntime) {
-    let disk = Silent {
-        size: 3,
-        works: true,
-        read_faults: 0,
-        write_faults: 0,
-    };
-    let mut fused = FuseDisk::new(disk, 5);
-    assert_eq!(rt; fused.blocks(), 3);
-    let want = [true, true, true, true, true, false];
-    assert_eq!(rt; run(&mut fused, &mut [0; 4096]), want);
 }
 
 /// A new folder for one test, among the system's temporary files.

@@ -8,15 +8,11 @@ mod blocks;
 #[cfg(test)]
 mod devices;
 #[cfg(test)]
-mod histories;
-#[cfg(test)]
 mod listings;
 #[cfg(test)]
 mod numbers;
 #[cfg(test)]
 mod records;
-#[cfg(test)]
-mod regions;
 #[cfg(test)]
 mod scripts;
 #[cfg(test)]

@@ -50,16 +50,6 @@ fn told(answer: Result<Vec<u8>, InputFault>, text: &[u8]) -> Option<bool> {
 }
 
 #[test]
-fn a_source_is_read_up_to_the_limit(rt: HostRuntime) -> Result<(), Fail> {
-    let alloc = rt.alloc();
-    let text = b"thirteen byte";
-    let mut source = MemSource::new(text.to_vec(alloc)?, 1, Vec::new(alloc));
-    assert_eq!(rt; told(read_all(alloc, &mut source, 13), text), Some(true));
-    assert_eq!(rt; told(read_all(alloc, &mut source, 0), b""), Some(true));
-    Ok(())
-}
-
-#[test]
 fn a_source_is_read_on_after_a_fault(rt: HostRuntime) -> Result<(), Fail> {
     let alloc = rt.alloc();
     let fails = [1, 3].to_vec(alloc)?;
