@@ -8,7 +8,7 @@ use Rattle.ck_script.specs.declared.line.Line.{Line}
 use Rattle.ck_script.specs.Built.{is_built_call, is_built}
 use Rattle.ck_script.specs.Names.{HasValidName, HaveValidNames}
 use Rattle.ck_script.specs.Places.{HasPlaces, HavePlaces}
-use Rattle.ck_volume.specs.Built.{IsBuilt}
+use Rattle.ck_files.specs.Built.{IsBuilt}
 
 neither : (nodata removable : Bool) → IsTrue (not nodata && not removable) → (nodata ≡ false) × (removable ≡ false)
 neither false false h = (refl, refl)

@@ -5,16 +5,15 @@ use Rattle.ck_model.specs.declared.call.Call.{Call}
 use Rattle.ck_model.specs.declared.entry.Entry.{Entry}
 use Rattle.ck_model.specs.World.{World}
 use Rattle.ck_model.specs.History.{CallsBy}
-use Rattle.ck_volume.specs.declared.closing.CommitAnswer.{CommitAnswer}
-use Rattle.ck_volume.specs.declared.closing.CommitAnswer.TheVariants as answer
-use Rattle.ck_volume.specs.declared.engine.Engine.{Engine}
-use Rattle.ck_volume.specs.Closing.{committed_after}
+use Rattle.ck_volume.specs.declared.commit.CommitAnswer.{CommitAnswer}
+use Rattle.ck_volume.specs.declared.commit.CommitAnswer.TheVariants as answer
+use Rattle.ck_volume.specs.Present.{Present, history_of}
+use Rattle.ck_volume.specs.CommitAnswer.{committed_after}
 use Rattle.ck_volume.specs.Cuts.{CutSince, LeavesCuts as KeepsCuts}
-use Rattle.ck_volume.specs.Engine.{history_of}
-use Rattle.ck_volume.specs.Recovering.{Recovers}
+use Rattle.ck_engine.specs.Recovery.{Recovers}
 use Rattle.ck_volume.specs.Told.{AreAnswered}
 use Rattle.ck_disk.proofs.MomentLaws.{leaves_more}
-use Rattle.ck_volume.proofs.TopCutsLemmas.{opens-recovers}
+use Rattle.ck_volume.proofs.TopCutsLaws.{opens-recovers}
 use Rattle.ck_admin.specs.Crash.{synced_count, CutFrom, LeavesSince}
 
 pub longer : (history : List Entry) (entry : Entry) → length (history ++ entry ∷ []) ≡ length history + 1
@@ -31,7 +30,7 @@ committed_no_less n committed length answer.WriteFault low within = low
 committed_no_less n committed length (answer.Broken number) low within = low
 committed_no_less n committed length answer.NoMemory low within = low
 
-pub cuts_since : {D : Type 0} (old now : Meaning) (volume : Engine D) (calls : CallsBy) (w : World) (told : List Call) (least : ℕ) → (IsTrue old.tells → Recovers old.shows w) → AreAnswered calls told (history_of volume)
+pub cuts_since : {D : Type 0} (old now : Meaning) (volume : Present D) (calls : CallsBy) (w : World) (told : List Call) (least : ℕ) → (IsTrue old.tells → Recovers old.shows w) → AreAnswered calls told (history_of volume)
     → synced_count calls (history_of volume) ≤ least → KeepsCuts old now told least volume → LeavesSince calls w old now (history_of volume)
 cuts_since old now volume calls w told least found answered low cuts =
     let history = history_of volume in

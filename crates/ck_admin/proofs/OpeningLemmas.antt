@@ -2,8 +2,8 @@
 use Rattle.std.proofs.Common.{◌≡◌, ◌<◌, ℕ, List, Some, Result, Ok, Err, IfOk, sym, ap, ◌∙◌}
 use Rattle.ck_disk.specs.Disk.{Meaning}
 use Rattle.ck_log.specs.Layout.{size_of}
-use Rattle.ck_volume.specs.Opening.{IsFound}
-use Rattle.ck_volume.specs.Recovering.{Recovery}
+use Rattle.ck_engine.specs.Opened.{IsFound}
+use Rattle.ck_engine.specs.Recovery.{Recovery}
 use Rattle.ck_admin.specs.Refusals.{bad_size_words}
 use Rattle.ck_admin.specs.Statuses.{IsOpenStatus, refusal_words, not_opened_status}
 use Rattle.ck_admin.specs.Top.{EndsMkfs}

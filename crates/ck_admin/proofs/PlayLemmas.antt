@@ -19,7 +19,6 @@ use Rattle.ck_script.specs.Numbered.{calls_in, numbers_in, IsNumbered}
 use Rattle.ck_io.specs.Clock.{ClockMeaning}
 use Rattle.ck_disk.specs.Disk.{Meaning, Rose}
 use Rattle.ck_model.specs.declared.reply.Reply.TheVariants.{Broken}
-use Rattle.ck_volume.specs.Volume.{Follows, HasCause, is_read_fault}
 use Rattle.ck_volume.specs.Causes.{replies_of, HasCauses}
 use Rattle.ck_admin.specs.Play.{broken_by, BreaksFrom, lost_a_write, IsPlay, IsLater}
 
@@ -60,9 +59,9 @@ calls_parts before after line =
 some_same : {A : Type 0} (x y : A) → Some x ≡ Some y → x ≡ y
 some_same x y h = cc
 
--- a line's own actor and number lead to its call
-call_here : (before after : List Line) (line : Line) → IsNumbered (before ++ line ∷ after) → call_at (calls_in (before ++ line ∷ after)) line.actor line.seq ≡ Some line.call
-call_here before after line numbered =
+-- a line's number is the next one of its actor
+seq_here : (before after : List Line) (line : Line) → IsNumbered (before ++ line ∷ after) → line.seq ≡ suc (length (numbers_in before line.actor))
+seq_here before after line numbered =
     let all = before ++ line ∷ after in
     let actor = line.actor in
     let numbers = numbers_in before actor in
@@ -72,14 +71,20 @@ call_here before after line numbered =
     sym (get_here numbers line.seq (numbers_in after actor))
     ∙ ap (λ xs. slice_get xs (length numbers)) (sym parts ∙ numbered actor)
     ∙ range_here 1 (length (numbers_in all actor)) (length numbers) within in
-    let seq : line.seq ≡ suc (length numbers) = omega (arith, some_same line.seq (1 + length numbers) at) in
-    let many : length numbers ≡ length (calls_of (calls_in before) actor) = sym (calls_as_many before actor) in
-    ap (call_at (calls_in all) actor) (seq ∙ ap suc many)
-    ∙ ap (λ xs. slice_get xs (length (calls_of (calls_in before) actor))) (calls_parts before after line)
-    ∙ get_here (calls_of (calls_in before) actor) line.call (calls_of (calls_in after) actor)
+    omega (arith, some_same line.seq (1 + length numbers) at)
   where
     longer : (xs : List ℕ) (y : ℕ) (ys : List ℕ) → length xs < length (xs ++ y ∷ ys)
     longer xs y ys = simp length-append (omega arith)
+
+-- a line's own actor and number lead to its call
+call_here : (before after : List Line) (line : Line) → IsNumbered (before ++ line ∷ after) → call_at (calls_in (before ++ line ∷ after)) line.actor line.seq ≡ Some line.call
+call_here before after line numbered =
+    let all = before ++ line ∷ after in
+    let actor = line.actor in
+    let many : length (numbers_in before actor) ≡ length (calls_of (calls_in before) actor) = sym (calls_as_many before actor) in
+    ap (call_at (calls_in all) actor) (seq_here before after line numbered ∙ ap suc many)
+    ∙ ap (λ xs. slice_get xs (length (calls_of (calls_in before) actor))) (calls_parts before after line)
+    ∙ get_here (calls_of (calls_in before) actor) line.call (calls_of (calls_in after) actor)
 
 abbrev pub place_of_line : Line → ℕ × ℕ
 place_of_line line = (line.actor, line.seq)
@@ -142,6 +147,15 @@ pub called_at : (lines : List Line) (at : ℕ) (line : Line) → IsNumbered line
 called_at lines at line numbered within is =
     let parts = parts_at lines at line within is in
     ap (λ lines. call_at (calls_in lines) line.actor line.seq) parts ∙ call_here (take at lines) (drop (suc at) lines) line (subst IsNumbered parts numbered)
+
+-- and its number is the next one of its actor among the entries so far
+pub number_at : (lines : List Line) (at : ℕ) (line : Line) (history : List Entry) → IsNumbered lines → at < length lines → line ≡ get_or lines at line → list_map place_of_entry history ≡ list_map place_of_line (take at lines)
+    → line.seq ≡ length (numbers_of history line.actor) + 1
+number_at lines at line history numbered within is places =
+    let here = seq_here (take at lines) (drop (suc at) lines) line (subst IsNumbered (parts_at lines at line within is) numbered) in
+    let many : length (numbers_of history line.actor) ≡ length (numbers_in (take at lines) line.actor) =
+    ap (λ (numbers : List ℕ). length numbers) (numbers_of-is history line.actor ∙ ap (λ places. numbers_at places line.actor) places ∙ sym (numbers_in-is (take at lines) line.actor)) in
+    omega (arith, here, many)
 
 -- the entry of the next line
 pub goes_on : (lines : List Line) (clock : ClockMeaning) (at : ℕ) (history : List Entry) (line : Line) (entry : Entry) → at < length lines → line ≡ get_or lines at line

@@ -8,11 +8,12 @@ use Rattle.ck_model.specs.declared.entry.Entry.{Entry}
 use Rattle.ck_model.specs.Streams.{Texts}
 use Rattle.ck_model.specs.World.{World, unmounted}
 use Rattle.ck_model.specs.History.{call_at, state}
-use Rattle.ck_volume.specs.Exact.{IsExact}
-use Rattle.ck_volume.specs.declared.closing.CommitAnswer.{CommitAnswer}
-use Rattle.ck_volume.specs.declared.closing.CommitAnswer.TheVariants as answer
+use Rattle.ck_engine.specs.Exact.{IsExact}
+use Rattle.ck_volume.specs.declared.commit.CommitAnswer.{CommitAnswer}
+use Rattle.ck_volume.specs.declared.commit.CommitAnswer.TheVariants as answer
 use Rattle.ck_volume.specs.declared.volume.Volume.{Volume}
-use Rattle.ck_volume.specs.Volume.{broken_of, broken_by}
+use Rattle.ck_volume.specs.Kept.{broken_by}
+use Rattle.ck_volume.specs.Volume.{broken_of}
 use Rattle.ck_admin.specs.Crash.{LeavesSince, found_broken, IsPlayed}
 use Rattle.ck_admin.specs.Play.{IsPlay, IsLater, lost_a_write}
 use Rattle.ck_admin.proofs.CrashLemmas.{broken_or_not}

@@ -14,9 +14,9 @@ use Rattle.ck_script.specs.Reading.{Parsed, read_script}
 use Rattle.ck_io.specs.Clock.{ClockMeaning}
 use Rattle.ck_io.specs.Sink.{SinkMeaning}
 use Rattle.ck_io.specs.Source.{SourceMeaning}
-use Rattle.ck_volume.specs.declared.closing.CommitAnswer.{CommitAnswer}
-use Rattle.ck_volume.specs.declared.closing.CommitAnswer.TheVariants as answer
-use Rattle.ck_volume.specs.Recovering.{Recovers}
+use Rattle.ck_volume.specs.declared.commit.CommitAnswer.{CommitAnswer}
+use Rattle.ck_volume.specs.declared.commit.CommitAnswer.TheVariants as answer
+use Rattle.ck_engine.specs.Recovery.{Recovers}
 use Rattle.ck_admin.specs.Ending.{IsPrinted, IsUnplayed, EndsOn}
 use Rattle.ck_admin.specs.Crash.{synced_count, RecoversCut, CutFrom, LeavesCuts, LeavesSince, found_broken, IsPlayed}
 use Rattle.ck_volume.specs.Causes.{HasCauses, replies_of}

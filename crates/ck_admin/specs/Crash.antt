@@ -7,9 +7,9 @@ use Rattle.ck_model.specs.declared.entry.Entry.{Entry}
 use Rattle.ck_model.specs.Streams.{Texts}
 use Rattle.ck_model.specs.World.{World, unmounted}
 use Rattle.ck_model.specs.History.{CallsBy, call_at, state}
-use Rattle.ck_volume.specs.declared.closing.CommitAnswer.{CommitAnswer}
-use Rattle.ck_volume.specs.declared.closing.CommitAnswer.TheVariants as answer
-use Rattle.ck_volume.specs.Exact.{IsExact}
+use Rattle.ck_volume.specs.declared.commit.CommitAnswer.{CommitAnswer}
+use Rattle.ck_volume.specs.declared.commit.CommitAnswer.TheVariants as answer
+use Rattle.ck_engine.specs.Exact.{IsExact}
 pub use Rattle.ck_volume.specs.TopCuts.{is_synced, synced_from, synced_count, RecoversCut, CutFrom}
 use Rattle.ck_admin.specs.Play.{IsPlay, IsLater, lost_a_write}
 

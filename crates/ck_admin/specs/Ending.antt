@@ -9,7 +9,7 @@ use Rattle.ck_model.specs.History.{call_at}
 use Rattle.ck_model.specs.World.{World}
 use Rattle.ck_report.specs.declared.status.Status.{Status}
 use Rattle.ck_report.specs.declared.status.Status.TheVariants.{NoMemory}
-use Rattle.ck_volume.specs.declared.closing.CommitAnswer.{CommitAnswer}
+use Rattle.ck_volume.specs.declared.commit.CommitAnswer.{CommitAnswer}
 use Rattle.ck_admin.specs.Crash.{IsPlayed}
 use Rattle.ck_admin.specs.Statuses.{IsPrintFault, play_status}
 use Rattle.ck_admin.specs.Top.{Gains, GainsNothing}

@@ -12,9 +12,9 @@ use Rattle.ck_io.specs.Faults as io
 use Rattle.ck_io.specs.Sink.{SinkMeaning}
 use Rattle.ck_io.specs.Source.{SourceMeaning}
 use Rattle.ck_script.specs.Reading.{read_script}
-use Rattle.ck_volume.specs.declared.closing.CommitAnswer.{CommitAnswer}
-use Rattle.ck_volume.specs.declared.closing.CommitAnswer.TheVariants as answer
-use Rattle.ck_volume.specs.Recovering.{Recovery, NotVolume, BadFormat, Damaged, Opens, Finds}
+use Rattle.ck_volume.specs.declared.commit.CommitAnswer.{CommitAnswer}
+use Rattle.ck_volume.specs.declared.commit.CommitAnswer.TheVariants as answer
+use Rattle.ck_engine.specs.Recovery.{Recovery, NotVolume, BadFormat, Damaged, Opens, Finds}
 use Rattle.ck_admin.specs.Refusals.{not_volume_words, bad_format_words, damaged_words}
 
 -- a line is the first that is refused, the source failed, or memory was refused

@@ -17,9 +17,9 @@ use Rattle.ck_io.specs.Sink.{SinkMeaning}
 use Rattle.ck_io.specs.Source.{SourceMeaning}
 use Rattle.ck_script.specs.Numbered.{calls_in}
 use Rattle.ck_script.specs.Reading.{Parsed, read_script}
-use Rattle.ck_volume.specs.Exact.{IsExact}
-use Rattle.ck_volume.specs.Formatting.{new_world}
-use Rattle.ck_volume.specs.Recovering.{Recovers}
+use Rattle.ck_engine.specs.Exact.{IsExact}
+use Rattle.ck_engine.specs.Formatted.{new_world}
+use Rattle.ck_engine.specs.Recovery.{Recovers}
 use Rattle.ck_words.specs.declared.command.Command.{Command}
 use Rattle.ck_words.specs.declared.command.Command.TheVariants.{Play, Mkfs}
 use Rattle.ck_admin.specs.Crash.{LeavesCuts}

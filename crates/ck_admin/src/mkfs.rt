@@ -7,8 +7,9 @@ use crate::command::Ended;
 use crate::opening::not_opened;
 use crate::refusal::bad_size;
 use ck_disk::Disk;
+use ck_engine::FormatFault;
 use ck_report::Status;
-use ck_volume::{FormatFault, Volume};
+use ck_volume::Volume;
 use std::alloc::Global;
 
 /// Makes a volume with so many data blocks and records on a device, over whatever stood there.

@@ -5,9 +5,10 @@ ghost use Rattle.ck_admin.specs.Statuses.{IsOpenStatus, not_opened_status};
 use crate::command::Ended;
 use crate::refusal::{bad_format, damaged, not_volume};
 use ck_disk::Disk;
+use ck_engine::OpenFault;
 use ck_model::{NoMemory, Octets};
 use ck_report::Status;
-use ck_volume::{OpenFault, Volume};
+use ck_volume::Volume;
 use std::alloc::Global;
 
 /// The status that says why a device isn't opened, in these words.

@@ -2,9 +2,9 @@ ghost use Rattle.std.specs.Prelude.{◌≡◌, ◌≤◌, [], None, IfOk, OnOk, 
 ghost use Rattle.std.specs.List.{AllByRecursion};
 ghost use Rattle.ck_model.specs.History.{IsOfScript, call_at};
 ghost use Rattle.ck_script.specs.Numbered.{calls_in};
-ghost use Rattle.ck_volume.specs.Built.{IsBuilt};
+ghost use Rattle.ck_files.specs.Built.{IsBuilt};
 ghost use Rattle.ck_volume.specs.Volume.{disk_of, history_of, room_of, spoilt_of, committed_of, told_of, origin_of, world_of, IsBegun};
-ghost use Rattle.ck_volume.specs.Recovering.{Recovers};
+ghost use Rattle.ck_engine.specs.Recovery.{Recovers};
 ghost use Rattle.ck_volume.specs.Told.{AreAnswered};
 ghost use Rattle.ck_admin.specs.Crash.{synced_count, IsPlayed};
 

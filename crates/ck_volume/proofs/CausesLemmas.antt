@@ -6,8 +6,8 @@ use Rattle.ck_model.specs.declared.entry.Entry.{Entry}
 use Rattle.ck_model.specs.declared.reply.Reply.{Reply}
 use Rattle.ck_model.specs.History.{is_write_fault}
 use Rattle.ck_volume.specs.Causes.{replies_of, HasCauses}
-use Rattle.ck_volume.specs.Engine.{HasCause, is_read_fault}
 use Rattle.ck_disk.specs.Runs.{Runs}
+use Rattle.ck_volume.specs.Event.{HasCause, is_read_fault}
 
 replies-more : (is : Reply → Bool) (history : List Entry) (entry : Entry) → replies_of is (history ++ entry ∷ []) ≡ replies_of is history + (if is entry.reply then 1 else 0)
 replies-more is [] entry = omega arith

@@ -12,17 +12,16 @@ use Rattle.ck_model.specs.declared.reply.Reply.TheVariants.{Done, Broken}
 use Rattle.ck_model.specs.Space.{without_picks}
 use Rattle.ck_model.specs.World.{World, unmounted}
 use Rattle.ck_model.specs.History.{is_fault, is_write_fault, is_broken}
-use Rattle.ck_volume.specs.declared.closing.CommitAnswer.{CommitAnswer}
-use Rattle.ck_volume.specs.declared.closing.CommitAnswer.TheVariants as answer
-use Rattle.ck_volume.specs.declared.engine.Engine.{Engine}
+use Rattle.ck_volume.specs.declared.commit.CommitAnswer.{CommitAnswer}
+use Rattle.ck_volume.specs.declared.commit.CommitAnswer.TheVariants as answer
+use Rattle.ck_volume.specs.Present.{Present, history_of, broken_of, length_of, world_of, KeepsWorld, Survives}
 use Rattle.ck_volume.specs.Causes.{acknowledges, is_sync, is_done}
-use Rattle.ck_volume.specs.Closing.{broken_after, committed_after}
-use Rattle.ck_volume.specs.Committed.{OpensToEither}
+use Rattle.ck_volume.specs.CommitAnswer.{broken_after, committed_after}
+use Rattle.ck_engine.specs.Committed.{OpensToEither}
 use Rattle.ck_volume.specs.Cuts.{LeavesCuts, OpensOnTheWay, KeepsOnTheWay, SurvivesOnTheWay}
-use Rattle.ck_volume.specs.Engine.{history_of, broken_of, length_of, world_of, KeepsWorld, Survives}
 use Rattle.ck_disk.specs.Runs.{Runs}
 use Rattle.ck_volume.specs.Kept.{Stands}
-use Rattle.ck_volume.specs.Recovering.{Recovers}
+use Rattle.ck_engine.specs.Recovery.{Recovers}
 use Rattle.ck_disk.proofs.MomentLaws.{leaves_more}
 use Rattle.ck_volume.proofs.CutsLemmas.{Leaves, broken_or_not, cuts-unsynced, cuts-synced, cuts-uncommitted, cuts-committed}
 
@@ -42,14 +41,14 @@ both_true false b h = absurd (false≢true h)
 
 -- ---- a call that gives nothing up
 
-pub survives-plain : {D : Type 0} (most : ℕ) (old new : Meaning) (before : Engine D) → Survives old new before → SurvivesOnTheWay most old new before
+pub survives-plain : {D : Type 0} (most : ℕ) (old new : Meaning) (before : Present D) → Survives old new before → SurvivesOnTheWay most old new before
 survives-plain most old new before survives told w keeps =
     let present = world_of old.shows before in
     leaves_more old new (OpensToEither w (unmounted present)) (OpensOnTheWay most w present)
     (λ image either. ⊎_elim (λ (is : Recovers image w). inl is) (λ (is : Recovers image (unmounted present)). inr (0, (omega arith, is))) either)
     (survives told w keeps)
 
-module _ {D : Type 0} (origin mid new : Meaning) (law : Lawful new) (told more : List Call) (least now : ℕ) (before after : Engine D) (call : Call) (entry : Entry)
+module _ {D : Type 0} (origin mid new : Meaning) (law : Lawful new) (told more : List Call) (least now : ℕ) (before after : Present D) (call : Call) (entry : Entry)
     (cuts : LeavesCuts origin mid told least before) (stands : Stands origin mid told before) (low : least ≤ length_of before) where
   -- ---- an event
 
@@ -103,7 +102,7 @@ pub unbroken-done : (o : Option ℕ) (how : CommitAnswer) → ((n : ℕ) → o �
 unbroken-done None how refused done = refl
 unbroken-done (Some n) how refused done = absurd (done_other n (sym done ∙ refused n refl))
 
-module _ {D : Type 0} (origin mid new : Meaning) (law : Lawful new) (told : List Call) (least now : ℕ) (before after : Engine D)
+module _ {D : Type 0} (origin mid new : Meaning) (law : Lawful new) (told : List Call) (least now : ℕ) (before after : Present D)
     (cuts : LeavesCuts origin mid told least before) (stands : Stands origin mid told before) (low : least ≤ length_of before)
     (same : history_of after ≡ history_of before) (runs : Runs mid new) (world : IsTrue mid.tells → world_of new.shows after ≡ world_of mid.shows before)
     (survives : broken_of before ≡ None → Survives mid new before)

@@ -8,17 +8,16 @@ use Rattle.ck_model.specs.Streams.{Texts}
 use Rattle.ck_model.specs.Space.{without_picks}
 use Rattle.ck_model.specs.World.{World, unmounted}
 use Rattle.ck_model.specs.History.{CallsBy, state, Past}
-use Rattle.ck_volume.specs.declared.engine.Engine.{Engine}
-use Rattle.ck_volume.specs.Committed.{OpensToEither}
+use Rattle.ck_volume.specs.Present.{Present, history_of, broken_of, length_of, world_of, KeepsWorld, Survives}
+use Rattle.ck_engine.specs.Committed.{OpensToEither}
 use Rattle.ck_volume.specs.Cuts.{given_at, IsCut, OpensToCut, CutSince, CommitsCut, LeavesCuts, OpensOnTheWay, KeepsOnTheWay}
-use Rattle.ck_volume.specs.Engine.{history_of, broken_of, length_of, world_of, KeepsWorld, Survives}
 use Rattle.ck_disk.specs.Runs.{Runs}
 use Rattle.ck_volume.specs.Kept.{Stands}
-use Rattle.ck_volume.specs.Recovering.{Recovers}
+use Rattle.ck_engine.specs.Recovery.{Recovers}
 use Rattle.ck_volume.specs.Told.{AreAnswered}
 use Rattle.ck_disk.proofs.MomentLaws.{leaves_more, leaves_now, leaves_both}
-use Rattle.ck_volume.proofs.KeptLaws.{kept-recovers}
-use Rattle.ck_volume.proofs.ToldLemmas.{answered-before}
+use Rattle.ck_engine.proofs.KeptLaws.{kept-recovers}
+use Rattle.ck_volume.proofs.ToldLaws.{answered-before}
 
 -- ---- cuts of a history that grows
 
@@ -99,7 +98,7 @@ module _ (origin : Meaning) (told : List Call) (history : List Entry) where
       }
 
 -- a history that stands leads to the present world
-pub stands-now : {D : Type 0} (origin now : Meaning) (told : List Call) (volume : Engine D) → IsTrue origin.tells → Stands origin now told volume → IsNow origin told (history_of volume) (world_of now.shows volume)
+pub stands-now : {D : Type 0} (origin now : Meaning) (told : List Call) (volume : Present D) → IsTrue origin.tells → Stands origin now told volume → IsNow origin told (history_of volume) (world_of now.shows volume)
 stands-now origin now told volume is_told stands first found texts calls answered = ap (λ (past : Past). past.world) (stands is_told first found texts calls answered).1
 
 -- ---- runs
@@ -132,14 +131,14 @@ no_one o x some none = cc
 
 -- ---- at the beginning
 
-pub cuts-begin : {D : Type 0} (m : Meaning) (volume : Engine D) → Lawful m → history_of volume ≡ [] → (IsTrue m.tells → (first : World) → Recovers m.shows first → first ≡ world_of m.shows volume)
+pub cuts-begin : {D : Type 0} (m : Meaning) (volume : Present D) → Lawful m → history_of volume ≡ [] → (IsTrue m.tells → (first : World) → Recovers m.shows first → first ≡ world_of m.shows volume)
     → (IsTrue m.tells → KeepsWorld m volume (unmounted (world_of m.shows volume))) → LeavesCuts m m [] 0 volume
 cuts-begin {D} m volume law none one keeps =
     let w = world_of m.shows volume in
     let cut : IsTrue m.tells → IsCut m [] (history_of volume) 0 (unmounted w) =
     λ told. subst (λ (es : List Entry). IsCut m [] es 0 (unmounted w)) (sym none) (cut-whole m [] [] 0 w (omega arith) (λ first found texts calls answered. one told first found)) in
     let opens : (image : Image) → m.may_leave image → CutSince m [] (history_of volume) 0 image =
-    λ image left told. record { world = unmounted w; cut = cut told; recovers = kept-recovers m volume (unmounted w) (keeps told) image left } in
+    λ image left told. record { world = unmounted w; cut = cut told; recovers = kept-recovers m volume.engine (unmounted w) (keeps told) image left } in
     record {
       any_moment = record {
         size = refl;
@@ -157,13 +156,13 @@ cuts-begin {D} m volume law none one keeps =
 -- ---- a call, and its entry
 
 -- what it says of crashes
-pub record Leaves {D : Type 0} (mid new : Meaning) (before after : Engine D) (most : ℕ) : Type 0 where
+pub record Leaves {D : Type 0} (mid new : Meaning) (before after : Present D) (most : ℕ) : Type 0 where
   pub runs : Runs mid new
   pub survives : broken_of before ≡ None → IsTrue mid.tells → (w : World) → KeepsWorld mid before w → LeavesOnly mid new (OpensOnTheWay most w (world_of mid.shows before))
   pub kept : broken_of after ≡ None → broken_of before ≡ None → IsTrue mid.tells → (w : World) → KeepsWorld mid before w → KeepsOnTheWay most new after w (world_of mid.shows before)
   pub broken : (number : ℕ) → broken_of before ≡ Some number → broken_of after ≡ Some number
 
-module _ {D : Type 0} (origin mid new : Meaning) (law : Lawful new) (told : List Call) (least : ℕ) (before after : Engine D) (cuts : LeavesCuts origin mid told least before) (stands : Stands origin mid told before)
+module _ {D : Type 0} (origin mid new : Meaning) (law : Lawful new) (told : List Call) (least : ℕ) (before after : Present D) (cuts : LeavesCuts origin mid told least before) (stands : Stands origin mid told before)
     (low : least ≤ length_of before) where
   abbrev history : List Entry
   history = history_of before
@@ -262,7 +261,7 @@ module _ {D : Type 0} (origin mid new : Meaning) (law : Lawful new) (told : List
         λ is_told. let kept = cuts.kept whole is_told in synced kept.world (told_mid is_told) kept.keeps in
         record {
           any_moment = subst (λ (es : List Entry). LeavesOnly origin new (CutSince origin more es 0)) (sym added) (leaves_both origin mid new (CutSince origin more longer_by 0) before_it (running whole));
-          at_the_end = λ image left is_told. record { world = w; cut = cut is_told; recovers = kept-recovers new after w (keeps is_told) image left };
+          at_the_end = λ image left is_told. record { world = w; cut = cut is_told; recovers = kept-recovers new after.engine w (keeps is_told) image left };
           kept = λ unbroken is_told. record { world = w; cut = cut is_told; keeps = keeps is_told };
         }
 
@@ -338,6 +337,6 @@ module _ {D : Type 0} (origin mid new : Meaning) (law : Lawful new) (told : List
         subst (λ (v : World). KeepsWorld new after (unmounted v)) (world (told_mid is_told)) (committed kept.world (told_mid is_told) kept.keeps) in
         record {
           any_moment = subst (λ (es : List Entry). LeavesOnly origin new (CutSince origin told es 0)) (sym same) (leaves_both origin mid new (CutSince origin told history 0) cuts.any_moment (committing whole));
-          at_the_end = λ image left is_told. record { world = w; cut = cut is_told; recovers = kept-recovers new after w (keeps is_told) image left };
+          at_the_end = λ image left is_told. record { world = w; cut = cut is_told; recovers = kept-recovers new after.engine w (keeps is_told) image left };
           kept = λ unbroken is_told. record { world = w; cut = cut is_told; keeps = keeps is_told };
         }

@@ -25,10 +25,10 @@ use Rattle.ck_model.specs.World.{World}
 use Rattle.ck_model.specs.Space.{held, records_in}
 use Rattle.ck_model.specs.Standing.{world_on, extent_count}
 use Rattle.ck_model.specs.Table.{Table, record_count}
-use Rattle.ck_volume.specs.Device.{store_on}
-use Rattle.ck_volume.specs.Exact.{IsExact}
-use Rattle.ck_volume.specs.Safe.{HoldsTable}
-use Rattle.ck_volume.proofs.StoodLemmas.{world-set}
+use Rattle.ck_data.specs.Device.{store_on}
+use Rattle.ck_engine.specs.Exact.{IsExact}
+use Rattle.ck_engine.specs.Safe.{HoldsTable}
+use Rattle.ck_volume.proofs.StoodLaws.{world-set}
 
 IsKey-prop : (key : Key) → IsProp (IsKey key)
 IsKey-prop (Name directory name) = hlevel props

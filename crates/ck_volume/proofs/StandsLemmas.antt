@@ -2,25 +2,23 @@
 use Rattle.std.proofs.Common.{◌≡◌, ℕ, ◌+◌, ◌≤◌, Bool, true, false, Option, Some, None, IsTrue, List, [], ◌∷◌, ◌++◌, length, if◌then◌else◌, refl, sym, ap, subst, ◌∙◌, arith}
 use Rattle.std.specs.Prelude.{MatchOption}
 use Rattle.std.specs.Option.{option_or}
-use Rattle.ck_disk.specs.Disk.{Meaning, Lawful}
+use Rattle.ck_disk.specs.Disk.{Meaning}
 use Rattle.ck_model.specs.declared.call.Call.{Call}
 use Rattle.ck_model.specs.declared.entry.Entry.{Entry}
 use Rattle.ck_model.specs.declared.reply.Reply.TheVariants.{Broken}
 use Rattle.ck_model.specs.Streams.{Texts}
 use Rattle.ck_model.specs.World.{World}
 use Rattle.ck_model.specs.History.{CallsBy, IsLegal, begun, past_of, is_write_fault, is_broken}
-use Rattle.ck_volume.specs.declared.closing.CommitAnswer.{CommitAnswer}
-use Rattle.ck_volume.specs.declared.closing.CommitAnswer.TheVariants as answer
-use Rattle.ck_volume.specs.declared.engine.Engine.{Engine}
-use Rattle.ck_volume.specs.Closing.{broken_after, committed_after, spoilt_after}
-use Rattle.ck_volume.specs.Engine.{history_of, broken_of, world_of, past_on, Follows, IsEntryOf}
-use Rattle.ck_volume.specs.Formatting.{IsFormatted, new_world}
+use Rattle.ck_volume.specs.declared.commit.CommitAnswer.{CommitAnswer}
+use Rattle.ck_volume.specs.declared.commit.CommitAnswer.TheVariants as answer
+use Rattle.ck_volume.specs.Present.{Present, history_of, broken_of, world_of, past_on}
+use Rattle.ck_volume.specs.CommitAnswer.{broken_after, committed_after, spoilt_after}
+use Rattle.ck_volume.specs.Event.{Follows, IsEntryOf}
 use Rattle.ck_volume.specs.Kept.{broken_by, BreaksFrom, Stands}
-use Rattle.ck_volume.specs.Opening.{IsOpened}
-use Rattle.ck_volume.specs.Recovering.{Recovers}
+use Rattle.ck_engine.specs.Recovery.{Recovers}
 use Rattle.ck_volume.specs.Told.{AreAnswered}
-use Rattle.ck_volume.proofs.KeptLaws.{kept-recovers, recovers-one}
-use Rattle.ck_volume.proofs.ToldLemmas.{answered-before, legal-more}
+use Rattle.ck_engine.proofs.KeptLaws.{recovers-one}
+use Rattle.ck_volume.proofs.ToldLaws.{answered-before, legal-more}
 
 -- ---- which entry broke it
 
@@ -97,17 +95,17 @@ within-event committed now before after false within longer is = omega (arith, i
 
 -- ---- where it stands
 
-abbrev StandsAt : {D : Type 0} → Meaning → Engine D → Texts → CallsBy → World → List Entry → Type 0
+abbrev StandsAt : {D : Type 0} → Meaning → Present D → Texts → CallsBy → World → List Entry → Type 0
 StandsAt now volume texts calls w history =
     IsLegal texts calls w history
     × (past_of texts calls (begun w) history ≡ record { world = world_of now.shows volume; length = length history; broken = broken_by 0 None history })
 
-pub stands-begins : {D : Type 0} (m : Meaning) (volume : Engine D) → history_of volume ≡ [] → (IsTrue m.tells → Recovers m.shows (world_of m.shows volume)) → Stands m m [] volume
+pub stands-begins : {D : Type 0} (m : Meaning) (volume : Present D) → history_of volume ≡ [] → (IsTrue m.tells → Recovers m.shows (world_of m.shows volume)) → Stands m m [] volume
 stands-begins m volume none recovers told w found texts calls answered =
     subst (λ (es : List Entry). StandsAt m volume texts calls w es) (sym none)
     (tt, ap (λ (v : World). begun v) (recovers-one m.shows w (world_of m.shows volume) found (recovers told)))
 
-pub stands-more : {D : Type 0} (origin mid new : Meaning) (told : List Call) (before after : Engine D) (call : Call) (entry : Entry) (actor seq at : ℕ)
+pub stands-more : {D : Type 0} (origin mid new : Meaning) (told : List Call) (before after : Present D) (call : Call) (entry : Entry) (actor seq at : ℕ)
     → Stands origin mid told before → mid.tells ≡ origin.tells → history_of after ≡ history_of before ++ entry ∷ [] → IsEntryOf actor seq at entry
     → (IsTrue mid.tells → (texts : Texts) (calls : CallsBy) → calls actor seq ≡ Some call → Follows texts calls (past_on mid.shows before) entry (past_on new.shows after))
     → broken_of before ≡ broken_by 0 None (history_of before) → broken_of after ≡ broken_by 0 None (history_of after)
@@ -127,7 +125,7 @@ stands-more origin mid new told before after call entry actor seq at stands tell
     (all.0, all.1 ∙ past)
 
 -- where the calls that were told are these
-pub stands-told : {D : Type 0} (origin mid new : Meaning) (told more : List Call) (before after : Engine D) (call : Call) (entry : Entry) (actor seq at : ℕ)
+pub stands-told : {D : Type 0} (origin mid new : Meaning) (told more : List Call) (before after : Present D) (call : Call) (entry : Entry) (actor seq at : ℕ)
     → Stands origin mid told before → more ≡ told ++ call ∷ [] → mid.tells ≡ origin.tells → history_of after ≡ history_of before ++ entry ∷ [] → IsEntryOf actor seq at entry
     → (IsTrue mid.tells → (texts : Texts) (calls : CallsBy) → calls actor seq ≡ Some call → Follows texts calls (past_on mid.shows before) entry (past_on new.shows after))
     → broken_of before ≡ broken_by 0 None (history_of before) → broken_of after ≡ broken_by 0 None (history_of after)
@@ -135,7 +133,7 @@ pub stands-told : {D : Type 0} (origin mid new : Meaning) (told more : List Call
 stands-told origin mid new told more before after call entry actor seq at stands is tells added is_entry follows was now =
     subst (λ (calls : List Call). Stands origin new calls after) (sym is) (stands-more origin mid new told before after call entry actor seq at stands tells added is_entry follows was now)
 
-pub stands-still : {D : Type 0} (origin mid new : Meaning) (told : List Call) (before after : Engine D)
+pub stands-still : {D : Type 0} (origin mid new : Meaning) (told : List Call) (before after : Present D)
     → Stands origin mid told before → mid.tells ≡ origin.tells → history_of after ≡ history_of before → (IsTrue mid.tells → world_of new.shows after ≡ world_of mid.shows before)
     → Stands origin new told after
 stands-still origin mid new told before after stands tells same world is_told w found texts calls answered =
@@ -143,14 +141,3 @@ stands-still origin mid new told before after stands tells same world is_told w 
     let history = history_of before in
     subst (λ (es : List Entry). StandsAt new after texts calls w es) (sym same)
     (stood.0, stood.1 ∙ ap (λ (v : World). record { world = v; length = length history; broken = broken_by 0 None history }) (sym (world (subst IsTrue (sym tells) is_told))))
-
--- ---- where it begins
-
-pub opened-recovers : {D : Type 0} (old new : Meaning) (volume : Engine D) → Lawful new → IsOpened old new volume → IsTrue new.tells → Recovers new.shows (world_of new.shows volume)
-opened-recovers old new volume law opened told =
-    kept-recovers new volume (world_of new.shows volume) (opened.kept (subst IsTrue opened.any_moment.tells told)) new.shows (law.shown told)
-
-pub formatted-recovers : {D : Type 0} (blocks records : ℕ) (old new : Meaning) (volume : Engine D) → Lawful new → IsFormatted blocks records old new volume → IsTrue new.tells → Recovers new.shows (world_of new.shows volume)
-formatted-recovers blocks records old new volume law formatted told =
-    subst (Recovers new.shows) (sym formatted.world)
-    (kept-recovers new volume (new_world blocks records) (formatted.kept (subst IsTrue formatted.runs.tells told)) new.shows (law.shown told))

@@ -7,7 +7,7 @@ use Rattle.ck_model.specs.declared.entry.Entry.{Entry}
 use Rattle.ck_model.specs.declared.reply.Reply.{Reply}
 use Rattle.ck_model.specs.declared.reply.Reply.TheVariants.{Done}
 use Rattle.ck_model.specs.History.{is_write_fault}
-use Rattle.ck_volume.specs.Engine.{is_read_fault}
+use Rattle.ck_volume.specs.Event.{is_read_fault}
 
 -- how many entries have such a reply
 abbrev pub replies_of : (Reply → Bool) → List Entry → ℕ

@@ -1,7 +1,7 @@
 -- Cuts as a caller tells them, who has the world that the history began at, and the calls by their actors.
-use Rattle.std.specs.Prelude.{◌≡◌, ◌≤◌, ◌+◌, ◌⊎◌, ℕ, Bool, false, List, [], ◌∷◌, IsTrue, length, take, if◌then◌else◌}
+use Rattle.std.specs.Prelude.{◌≡◌, ◌≤◌, ◌+◌, ℕ, Bool, false, List, [], ◌∷◌, IsTrue, length, take, if◌then◌else◌}
 use Rattle.std.specs.Option.{option_map_or}
-use Rattle.ck_disk.specs.Disk.{Image, Meaning, IsSynced}
+use Rattle.ck_disk.specs.Disk.{Image, Meaning}
 use Rattle.ck_model.specs.declared.call.Call.{Call}
 use Rattle.ck_model.specs.declared.entry.Entry.{Entry}
 use Rattle.ck_model.specs.Streams.{Texts}
@@ -10,7 +10,7 @@ use Rattle.ck_model.specs.World.{World, unmounted}
 use Rattle.ck_model.specs.History.{CallsBy, state}
 use Rattle.ck_volume.specs.Causes.{acknowledges}
 use Rattle.ck_volume.specs.Cuts.{given_at}
-use Rattle.ck_volume.specs.Recovering.{Recovers}
+use Rattle.ck_engine.specs.Recovery.{Recovers}
 
 -- the entry says that a sync was done
 abbrev pub is_synced : CallsBy → Entry → Bool
@@ -37,8 +37,3 @@ pub record RecoversCut (calls : CallsBy) (w : World) (history : List Entry) (lea
 
 abbrev pub CutFrom : Meaning → CallsBy → World → List Entry → ℕ → Image → Type 0
 CutFrom old calls w history least image = IsTrue old.tells → RecoversCut calls w history least image
-
-pub record LeavesCutsOf (calls : CallsBy) (w : World) (old new : Meaning) (history : List Entry) : Type 0 where
-  pub any_moment : IsSynced old → (image : Image) → new.left_since old.moment image → CutFrom old calls w history 0 image
-  pub unsynced : (image : Image) → new.left_since old.moment image → old.may_leave image ⊎ CutFrom old calls w history 0 image
-  pub at_the_end : (image : Image) → new.may_leave image → CutFrom old calls w history (synced_count calls history) image

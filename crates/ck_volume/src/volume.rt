@@ -1,16 +1,13 @@
-ghost use Rattle.std.specs.Prelude.{◌≡◌, ◌≤◌, None};
-ghost use Rattle.std.specs.Option.{option_or};
 ghost use Rattle.std.proofs.Props.{props};
-ghost use Rattle.ck_volume.specs.Causes.{HasCauses};
-ghost use Rattle.ck_volume.specs.Cuts.{LeavesCuts};
-ghost use Rattle.ck_volume.specs.Engine.{disk_of, history_of, length_of, broken_of, IsReady};
-ghost use Rattle.ck_disk.specs.Runs.{Runs};
-ghost use Rattle.ck_volume.specs.Kept.{broken_by, BreaksFrom, Stands};
-ghost use Rattle.ck_volume.specs.Told.{told_of};
+ghost use Rattle.ck_engine.specs.Engine as files;
+ghost use Rattle.ck_volume.specs.Kept.{IsKept as Keeps};
+ghost use Rattle.ck_volume.specs.Present.{present};
+ghost use Rattle.ck_volume.specs.Told.{told_of as calls_in};
 
-use crate::engine::Engine;
+use crate::log::Log;
 use crate::told::Told;
 use ck_disk::Disk;
+use ck_engine::Engine;
 use std::snapshot::Snapshot;
 
 /// A volume on a device. Once a write of it has failed it is broken: it answers every further call
@@ -18,6 +15,7 @@ use std::snapshot::Snapshot;
 #[derive(Drop)]
 pub struct Volume<D: Disk> {
     pub(crate) engine: Engine<D>,
+    pub(crate) log: Log,
     /// The device as it stood when it was opened or formatted.
     pub(crate) origin: Snapshot<D>,
     /// How many calls it had answered when a sync or a commit was done last, 0 before the first.
@@ -26,12 +24,5 @@ pub struct Volume<D: Disk> {
     pub(crate) told: Told,
     /// After how many calls a commit broke it, where one did.
     pub(crate) spoilt: Snapshot<Option<u32>>,
-    ghost ready: { ∥ IsReady (D.means (disk_of engine)) engine ∥₁ },
-    ghost later: { Runs (D.means origin.value) (D.means (disk_of engine)) },
-    ghost causes: { HasCauses (D.means origin.value) (D.means (disk_of engine)) (history_of engine) },
-    ghost breaks: { broken_of engine ≡ option_or (broken_by 0 None (history_of engine)) spoilt.value } by { Prim.hlevel props },
-    ghost replies: { ∥ BreaksFrom 0 None (history_of engine) ∥₁ },
-    ghost stands: { ∥ Stands (D.means origin.value) (D.means (disk_of engine)) (told_of told) engine ∥₁ },
-    ghost within: { committed.value ≤ length_of engine },
-    ghost cuts: { ∥ LeavesCuts (D.means origin.value) (D.means (disk_of engine)) (told_of told) committed.value engine ∥₁ },
+    ghost kept: { Keeps (D.means origin.value) (D.means (files.disk_of engine)) (calls_in told) committed.value spoilt.value (present engine log) } by { Prim.hlevel props },
 }

@@ -1,5 +1,5 @@
 use Rattle.std.proofs.Common.{refl}
-use Rattle.ck_volume.specs.Recovering.{BadFormat, Damaged}
+use Rattle.ck_engine.specs.Recovery.{BadFormat, Damaged}
 use Rattle.ck_admin.specs.Refusals.{bad_format_words, damaged_words}
 use Rattle.ck_admin.proofs.OpeningLemmas.{refused_status}
 use Rattle.ck_admin.proofs.opening.open.Goals as goal

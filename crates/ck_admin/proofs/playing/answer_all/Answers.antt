@@ -6,12 +6,13 @@ use Rattle.ck_model.specs.History.{CallsBy, IsOfScript, call_at}
 use Rattle.ck_script.specs.declared.line.Line.{Line}
 use Rattle.ck_script.specs.Numbered.{calls_in, IsNumbered}
 use Rattle.ck_volume.specs.Told.{AreAnswered}
-use Rattle.ck_volume.specs.Volume.{history_of, room_of, newest, committed_of, told_of}
-use Rattle.ck_volume.proofs.ToldLemmas.{answered-more}
-use Rattle.ck_volume.proofs.TopCutsLemmas.{synced-step}
+use Rattle.ck_volume.specs.Event.{newest}
+use Rattle.ck_volume.specs.Volume.{history_of, room_of, committed_of, told_of}
+use Rattle.ck_volume.proofs.ToldLaws.{answered-more}
+use Rattle.ck_volume.proofs.TopCutsLaws.{synced-step}
 use Rattle.ck_admin.specs.Crash.{synced_count}
 use Rattle.ck_admin.proofs.CrashLemmas.{longer}
-use Rattle.ck_admin.proofs.PlayLemmas.{IsSoFar, started, called_at, goes_on, whole}
+use Rattle.ck_admin.proofs.PlayLemmas.{IsSoFar, started, called_at, number_at, goes_on, whole}
 use Rattle.ck_admin.proofs.playing.answer_all.Goals as goal
 
 pub loop-line-init : goal.loop-line-init
@@ -59,6 +60,12 @@ loop-line-preserved g c =
       clock = c.now.ensures.unchanged ∙ inv.clock;
       room = omega (arith, event.room, inv.room);
     }
+
+pub event-requires-clause-number : goal.event-requires-clause-number
+event-requires-clause-number g c =
+    let lines = c.items-lines.result.now in
+    let numbered : IsNumbered lines = subst IsNumbered (sym c.items-lines.ensures) c.args.script.now.numbered in
+    number_at lines c.loop-line.line-index c.line-item.result (history_of c.loop-line.volume) numbered (omega arith) c.line-item.is c.loop-line.invariant.so_far.places
 
 pub returns-clause-of_script : goal.returns-clause-of_script
 returns-clause-of_script g c =

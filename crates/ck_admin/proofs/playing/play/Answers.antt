@@ -2,7 +2,7 @@ use Rattle.std.proofs.Common.{◌≡◌, List, length, ap, arith}
 use Rattle.ck_model.specs.declared.entry.Entry.{Entry}
 use Rattle.ck_script.specs.declared.line.Line.{Line}
 use Rattle.ck_volume.specs.Volume.{length_of}
-use Rattle.ck_volume.proofs.Reserved.{begun-reserved}
+use Rattle.ck_volume.proofs.ReservedLaws.{begun-reserved}
 use Rattle.ck_admin.proofs.playing.play.Goals as goal
 
 pub reserve-requires : goal.reserve-requires

@@ -1,0 +1,5 @@
+pub mod Device
+pub mod Reads
+pub mod Writes
+pub mod Stored
+pub mod Piece

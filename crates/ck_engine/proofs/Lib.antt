@@ -1,0 +1,9 @@
+pub mod SafeLemmas
+pub mod CommittedLemmas
+pub mod GoesOnLemmas
+pub mod AttemptLemmas
+pub mod OpenLemmas
+pub mod KeptLaws
+pub mod FormatLemmas
+pub mod WholeLaws
+pub mod LeavesLaws

@@ -1,0 +1,41 @@
+use Rattle.std.proofs.Common.{refl}
+use Rattle.ck_model.specs.World.{unmounted}
+use Rattle.ck_engine.specs.Engine.{world_of}
+use Rattle.ck_engine.proofs.KeptLaws.{kept-exact}
+use Rattle.ck_engine.proofs.AttemptLemmas.{commit-attempt, commit-committed, commit-goes}
+use Rattle.ck_engine.proofs.engine.Engine.commit.Goals as goal
+
+pub returns-in-Ok-clause-attempt : goal.returns-in-Ok-clause-attempt
+returns-in-Ok-clause-attempt g c =
+    commit-attempt (g.D.Disk.means c.args.self.now.disk) (g.D.Disk.means c.commit.new.disk) c.args.self.now _ (g.met.D.Disk.lawful c.args.self.now.disk) c.requires.whole _ c.commit.ensures.commits
+
+pub returns-in-Ok-clause-goes_on : goal.returns-in-Ok-clause-goes_on
+returns-in-Ok-clause-goes_on g c =
+    let e = c.in-Ok.ensures in
+    commit-goes (g.D.Disk.means c.args.self.now.disk) (g.D.Disk.means c.commit.new.disk) c.args.self.now _ (g.met.D.Disk.lawful c.args.self.now.disk) c.requires.whole _ e.commits
+    (g.met.D.Disk.lawful c.commit.new.disk) e.region refl refl e.settled e.synced e.commits.at_the_end e.others c.settle.ensures.free c.settle.ensures.partition
+
+pub returns-in-Ok-clause-committed : goal.returns-in-Ok-clause-committed
+returns-in-Ok-clause-committed g c =
+    let e = c.in-Ok.ensures in
+    commit-committed (g.D.Disk.means c.args.self.now.disk) (g.D.Disk.means c.commit.new.disk) c.args.self.now
+    (record c.args.self.now { region = c.commit.new.region; blocks = c.settle.new.self; disk = c.commit.new.disk }) (g.met.D.Disk.lawful c.args.self.now.disk) c.requires.whole _ e.commits
+    (g.met.D.Disk.lawful c.commit.new.disk) e.region refl refl e.settled e.synced e.commits.at_the_end e.others c.settle.ensures.free c.settle.ensures.partition
+
+pub returns-in-Err-WriteFault-clause-attempt : goal.returns-in-Err-WriteFault-clause-attempt
+returns-in-Err-WriteFault-clause-attempt g c =
+    commit-attempt (g.D.Disk.means c.args.self.now.disk) (g.D.Disk.means c.commit.new.disk) c.args.self.now _ (g.met.D.Disk.lawful c.args.self.now.disk) c.requires.whole _ c.commit.ensures.commits
+
+pub returns-in-Err-NoMemory-clause-attempt : goal.returns-in-Err-NoMemory-clause-attempt
+returns-in-Err-NoMemory-clause-attempt g c =
+    commit-attempt (g.D.Disk.means c.args.self.now.disk) (g.D.Disk.means c.commit.new.disk) c.args.self.now _ (g.met.D.Disk.lawful c.args.self.now.disk) c.requires.whole _ c.commit.ensures.commits
+
+pub returns-in-Ok-clause-exact : goal.returns-in-Ok-clause-exact
+returns-in-Ok-clause-exact g c = λ told w keeps image left.
+    let e = c.in-Ok.ensures in
+    let new = g.D.Disk.means c.commit.new.disk in
+    let after = record c.args.self.now { region = c.commit.new.region; blocks = c.settle.new.self; disk = c.commit.new.disk } in
+    kept-exact new after (unmounted (world_of new.shows after))
+    (commit-committed (g.D.Disk.means c.args.self.now.disk) new c.args.self.now after (g.met.D.Disk.lawful c.args.self.now.disk) c.requires.whole _ e.commits
+    (g.met.D.Disk.lawful c.commit.new.disk) e.region refl refl e.settled e.synced e.commits.at_the_end e.others c.settle.ensures.free c.settle.ensures.partition told w keeps)
+    image left

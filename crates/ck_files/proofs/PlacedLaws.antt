@@ -1,0 +1,100 @@
+-- A call's planned changes, once the data blocks that they write are stored: they may be made, and lead to the model's world.
+use Rattle.std.proofs.Common.{◌≡◌, ◌≢◌, ℕ, suc, ◌+◌, ◌-◌, ◌*◌, ◌<◌, ◌≤◌, ◌^◌, Bool, is_some, nat_le, true, false, not, ◌&&◌, ◌||◌, Result, Ok, Err, Some, List, [], ◌∷◌, length, nat_eq, nat_lt, replicate, if◌then◌else◌, IfSome, inl, inr, refl, sym, ap, subst, ◌∙◌, arith}
+use Rattle.std.specs.List.{list_any, AllByRecursion}
+use Rattle.std.specs.FinMap as map
+use Rattle.std.proofs.lemmas.Bool.{cases_lt}
+use Rattle.std.proofs.lemmas.Bool.Decides.{nat_tests}
+use Rattle.std.proofs.lemmas.List.Elements.{recursion_from_All}
+use mathlib.Core.Bool.{false≢true}
+use Rattle.ck_model.specs.declared.call.Call.{Call}
+use Rattle.ck_model.specs.declared.call.Call.TheVariants as call
+use Rattle.ck_model.specs.declared.cell.Payload.{Payload}
+use Rattle.ck_model.specs.declared.cell.Payload.TheVariants.{File, Dir, Bytes}
+use Rattle.ck_model.specs.declared.change.Change.{Change}
+use Rattle.ck_model.specs.declared.change.Change.TheVariants.{Put, Write, Del}
+use Rattle.ck_model.specs.declared.checkpoint.Counters.{Counters}
+use Rattle.ck_model.specs.declared.held.Held.{Held}
+use Rattle.ck_model.specs.declared.held.Held.TheVariants.{Extent}
+use Rattle.ck_model.specs.declared.held.Small.{Small}
+use Rattle.ck_model.specs.declared.key.Key.{Key}
+use Rattle.ck_model.specs.declared.key.Key.TheVariants.{Block}
+use Rattle.ck_model.specs.declared.reply.Reply.{Reply}
+use Rattle.ck_model.specs.declared.reply.Reply.TheVariants.{Done, IsDir, NotEmpty, Root, TooBig, Spent, NoSpace}
+use Rattle.ck_model.specs.declared.reply.SpaceOf.TheVariants.{Blocks, Records}
+use Rattle.ck_model.specs.History.{is_fault}
+use Rattle.ck_model.specs.Cells.{Cells}
+use Rattle.ck_model.specs.Changes.{cell_of, with_node, without_file, without_directory, renamed, written, resized}
+use Rattle.ck_model.specs.Changing.{is_spent, has_names, with_primary, changed_by}
+use Rattle.ck_model.specs.Limits.{file_limit}
+use Rattle.ck_model.specs.Held.{IsCounters}
+use Rattle.ck_model.specs.Refusals.{and_then, refuse_if}
+use Rattle.ck_model.specs.Rules.{IsSound, stamp_in}
+use Rattle.ck_model.specs.Step.{changing}
+use Rattle.ck_model.specs.Table.{Table, column, record_count, spare_count}
+use Rattle.ck_model.specs.Values.{Store, payload_of}
+use Rattle.ck_model.specs.Walk.{file_at, directory_at, name_at, new_name_at}
+use Rattle.ck_model.specs.World.{World, Mounts}
+use Rattle.ck_model.specs.Standing.{world_on, extent_count}
+use Rattle.ck_chain.specs.Naming.{block_of, IsNamed}
+use Rattle.ck_chain.specs.Changes.{deletions_first, is_deletion, key_of, value_after}
+use Rattle.ck_push.specs.Changed.{push_of}
+use Rattle.ck_push.specs.Growth.{gain, gains, loss, losses, one_if, write_count}
+use Rattle.ck_tree.specs.declared.fault.TreeFault.{TreeFault}
+use Rattle.ck_tree.specs.declared.fault.TreeFault.TheVariants.{NotFound, NotDir, IsDir as IsDirectory, Exists as Existing, NotEmpty as NotEmptied, Root as AtRoot, TooBig as TooLong, Spent as AllSpent, NoMemory}
+use Rattle.ck_tree.specs.Faults.{reply_of}
+use Rattle.ck_tree.specs.Plan.{IsPlan, IsRefusal, Differ, MayBeMade, block_by, numbers_after, world_after, with_changes as planned_cells}
+use Rattle.ck_alloc.specs.Blocks.{Allocation}
+use Rattle.ck_files.specs.Allocated.{is_named, is_taken, IsAllocatedBut, SameNamed}
+use Rattle.ck_files.specs.Changes.{raised, IsRaised, with_changes, written_by}
+use Rattle.ck_push.specs.Changes.{MayChangeAll, AllApart, MayChange, changed_all}
+use Rattle.ck_files.specs.Places.{with_places, AreDistinct, ArePlaced, AreHeld}
+use Rattle.ck_files.specs.Plain.{IsOurs}
+use Rattle.ck_files.specs.Room.{has_room, lack_of_room, answered_with}
+use Rattle.ck_tree.proofs.StandingLaws.{stands_on as stands}
+use Rattle.ck_files.proofs.NamedLaws.{extent_is, is-named, named-is}
+use Rattle.ck_files.proofs.ChangingLemmas.{changing-full, changing-fits}
+use Rattle.ck_files.proofs.PlacedLemmas.{IsPlace, placed_gains, placed_losses, placed_first, placed_blocks, room_records, planned_up, planned_raised, planned_may, planned-fits}
+
+-- the numbers that are given next after it
+module _ (t : Table) (c : Call) (changes : List Change) (ours : IsOurs t) (plan : IsPlan t c changes) where
+  pub after_lawful : IsCounters (numbers_after c t.counters)
+  after_lawful = (planned_up (λ block. []) map.empty t c changes ours plan).lawful
+
+  pub after_raised : IsRaised t (numbers_after c t.counters) t.blocks
+  after_raised = planned_raised (λ block. []) map.empty t c changes ours plan t.blocks (omega arith)
+
+are_places : (t : Table) (places : List ℕ) → AllByRecursion (λ place. place < t.blocks) places → AllByRecursion (λ place. is_named t place ≡ false) places → AllByRecursion (IsPlace t t.blocks) places
+are_places t [] within unnamed = tt
+are_places t (place ∷ places) within unnamed = ((within.0, λ named. false≢true (sym unnamed.0 ∙ named-is t place named)), are_places t places within.1 unnamed.1)
+
+module _ (t : Table) (c : Call) (changes new : List Change) (after : Allocation) (ours : IsOurs t) (plan : IsPlan t c changes) (placed : ArePlaced t after changes new) where
+  are : AllByRecursion (IsPlace t t.blocks) placed.places
+  are = are_places t placed.places placed.within placed.unnamed
+
+  most : t.blocks ≤ 2 ^ 31
+  most = let sized = ours.sized.blocks in omega (arith, sized)
+
+  pub stored_first : deletions_first new ≡ true
+  stored_first = ap deletions_first placed.are ∙ placed_first changes placed.places ∙ plan.first
+
+  pub stored_room : has_room t (write_count changes) (gains t changes - losses t changes) ≡ true → gains t new - losses t new ≤ spare_count t
+  stored_room room =
+      let same : gains t new - losses t new ≡ gains t changes - losses t changes =
+      ap (λ items. gains t items - losses t items) placed.are ∙ (λ i. placed_gains t changes placed.places i - placed_losses t changes placed.places i) in
+      subst (λ n. n ≤ spare_count t) (sym same) (room_records t (write_count changes) (gains t changes - losses t changes) room)
+
+  pub stored_may : MayChangeAll (raised t (numbers_after c t.counters) t.blocks) new t.counters.stamp
+  stored_may = subst (λ items. MayChangeAll (raised t (numbers_after c t.counters) t.blocks) items t.counters.stamp) (sym placed.are)
+      (planned_may (λ block. []) map.empty t c changes ours plan placed.places t.blocks placed.many placed.distinct are most)
+
+  pub stored_allocated : (stamp : ℕ) → IsAllocatedBut (written_by new stamp) t after
+  stored_allocated stamp = subst (λ taken. IsAllocatedBut taken t after) (sym (ap (λ items. written_by items stamp) placed.are ∙ placed_blocks changes placed.places stamp placed.many)) placed.allocated
+
+  -- they lead to the model's world
+  pub stored-done : (store other : Store) (mounts : Mounts) → SameNamed t store other → AreHeld (block_by (world_on store mounts t) c) other new
+      → has_room t (write_count changes) (gains t changes - losses t changes) ≡ true → (u : Table) → u ≡ changed_all (raised t (numbers_after c t.counters) t.blocks) new t.counters.stamp
+      → changing (world_on store mounts t) (changed_by (world_on store mounts t) c) ≡ answered_with Done (world_on other mounts u)
+  stored-done store other mounts same held room u is =
+      planned-fits store mounts t c changes ours plan other placed.places t.blocks placed.many placed.distinct are (omega arith) most same
+      (subst (AreHeld (block_by (world_on store mounts t) c) other) placed.are held) room refl u
+      (is ∙ ap (λ items. changed_all (raised t (numbers_after c t.counters) t.blocks) items t.counters.stamp) placed.are)

@@ -1,0 +1,130 @@
+-- A call has room in a volume's table exactly where it has room in the world.
+use Rattle.std.proofs.Common.{◌≡◌, ℕ, zero, suc, ◌+◌, ◌-◌, ◌≤◌, Bool, true, false, not, cond, ◌&&◌, IsSome, is_some, if◌then◌else◌, List, [], ◌∷◌, map as list_map, find, length, Option, Some, None, nat_le, refl, sym, ap, ◌∙◌, inl, inr, arith}
+use Rattle.std.specs.Option.{option_or, option_map, option_map_or}
+use Rattle.std.specs.List.{AllByRecursion}
+use Rattle.std.specs.FinMap.{nat_cmp-IsAntisymmetric, entries_sorted}
+use Rattle.std.specs.FinMap as map
+use Rattle.std.proofs.lemmas.Bool.Decides.{nat_tests}
+use Rattle.std.proofs.lemmas.Cmp.{nat_cmp_total}
+use mathlib.Core.Bool.{false≢true}
+use Rattle.ck_model.specs.declared.reply.Reply.{Reply}
+use Rattle.ck_model.specs.declared.reply.Reply.TheVariants.{NoSpace}
+use Rattle.ck_model.specs.declared.reply.SpaceOf.TheVariants.{Blocks, Records}
+use Rattle.ck_model.specs.declared.checkpoint.Fileset.{Fileset}
+use Rattle.ck_model.specs.World.{World, Checkpoint, Mounts, keeps_files, without_checkpoint}
+use Rattle.ck_model.specs.Space.{held, records_in, fits, pick, oldest_removable, given_up, without_picks, no_space}
+use Rattle.ck_model.specs.Step.{Outcome, with_room}
+use Rattle.ck_model.specs.Table.{Table, IsTable, record_count}
+use Rattle.ck_model.specs.Rules.{IsSound}
+use Rattle.ck_model.specs.Values.{Store}
+use Rattle.ck_model.specs.Standing.{checkpoint_on, checkpoints_on, world_on, extent_count}
+use Rattle.ck_model.proofs.FilesetLaws.{all_found}
+use Rattle.ck_model.proofs.CountLaws.{records_are, extents_are, live_all}
+use Rattle.ck_model.specs.Placed.{NoneGone, AllStripped}
+use Rattle.ck_files.specs.Plain.{IsPlain, IsOurs}
+use Rattle.ck_files.specs.Room.{Grows, has_room, lack_of_room, answered_with}
+use Rattle.ck_files.proofs.Checkpoints.{keeps_itself}
+
+pub none_gone : (t : Table) → IsPlain t → NoneGone t
+none_gone t plain id fileset is = (plain id fileset is).gone
+
+some_is : {X : Type 0} (o : Option X) → IsSome o → (x : X) × (o ≡ Some x)
+some_is None h = absurd (false≢true h)
+some_is (Some x) h = (x, refl)
+
+pub all_stripped : (t : Table) → IsTable t → IsSound t → IsPlain t → AllStripped t
+all_stripped t lawful sound plain fs key stamp block has = elim (sound.orderly.homes fs key (ap is_some has)) [
+  | inl first ↦ inl first
+  | inr there ↦ let f = some_is (map.get t.filesets fs) there in inr (keeps_itself t fs f.0 (lawful.filesets fs f.0 f.1).some f.1 (plain fs f.0 f.1))
+]
+
+-- the records and data blocks of a volume's table are those of its world
+pub held-is : (store : Store) (mounts : Mounts) (t : Table) → IsOurs t → held (world_on store mounts t) ≡ extent_count t
+held-is store mounts t ours = sym (extents_are store mounts t ours.lawful ours.sound (none_gone t ours.plain) (all_stripped t ours.lawful ours.sound ours.plain))
+
+pub records-is : (store : Store) (mounts : Mounts) (t : Table) → IsOurs t → records_in (world_on store mounts t) ≡ record_count t
+records-is store mounts t ours = sym (records_are store mounts t ours.lawful ours.sound (none_gone t ours.plain))
+
+-- ---- none is given up
+
+none_removable : (store : Store) (t : Table) (keeps : Bool) (es : List (ℕ × Fileset)) → AllByRecursion (λ e. e.1.removable ≡ false) es
+    → find (λ (checkpoint : Checkpoint). checkpoint.removable && (if keeps then keeps_files checkpoint.kind else not (keeps_files checkpoint.kind))) (list_map (λ e. checkpoint_on store t e.0 e.1) es) ≡ None
+none_removable store t keeps [] all = refl
+none_removable store t keeps (e ∷ es) all =
+    ap (λ b. cond (b && (if keeps then keeps_files e.1.kind else not (keeps_files e.1.kind))) (Some (checkpoint_on store t e.0 e.1)) (find (λ (checkpoint : Checkpoint). checkpoint.removable && (if keeps then keeps_files checkpoint.kind else not (keeps_files checkpoint.kind))) (list_map (λ e. checkpoint_on store t e.0 e.1) es))) all.0
+    ∙ none_removable store t keeps es all.1
+
+pub pick-none : (store : Store) (mounts : Mounts) (t : Table) → IsOurs t → pick (world_on store mounts t) ≡ None
+pick-none store mounts t ours =
+    let live : checkpoints_on store t ≡ list_map (λ e. checkpoint_on store t e.0 e.1) (map.entries t.filesets) = ap (list_map (λ e. checkpoint_on store t e.0 e.1)) (live_all t ours.lawful ours.sound (none_gone t ours.plain)) in
+    let each = all_found nat_cmp_total nat_cmp-IsAntisymmetric (λ (e : ℕ × Fileset). e.1.removable ≡ false) (map.entries t.filesets) (entries_sorted t.filesets) (λ id f found. (ours.plain id f (map.get-entries t.filesets id ∙ found)).stays) in
+    ap (λ cs. option_or (oldest_removable true cs) (oldest_removable false cs)) live
+    ∙ (λ i. option_or (option_map (λ (checkpoint : Checkpoint). checkpoint.id) (none_removable store t true (map.entries t.filesets) each i)) (option_map (λ (checkpoint : Checkpoint). checkpoint.id) (none_removable store t false (map.entries t.filesets) each i)))
+
+given-none : (most : ℕ) (effect : World → World) (new : ℕ) (w : World) → pick w ≡ None → given_up most effect new w ≡ 0
+given-none zero effect new w none = refl
+given-none (suc most) effect new w none =
+    elim (fits w (effect w) new) as (λ b. (if b then 0 else option_map_or (λ id. given_up most effect new (without_checkpoint w id) + 1) (pick w) 0) ≡ 0) [
+      | true ↦ refl
+      | false ↦ ap (λ o. option_map_or (λ id. given_up most effect new (without_checkpoint w id) + 1) o 0) none
+    ]
+
+abbrev told_of : Reply → ℕ → World → Outcome
+told_of reply given next = record { reply = reply; given = given; next = next }
+
+-- with none to give up, a call fits or doesn't
+pub room-plain : (w : World) (effect : World → World) (new : ℕ) (reply : Reply) → pick w ≡ None
+    → with_room w effect new reply ≡ (if fits w (effect w) new then answered_with reply (effect w) else answered_with (no_space w (effect w) new) w)
+room-plain w effect new reply none =
+    ap (λ given. let left = without_picks given w in
+    if fits left (effect left) new
+    then told_of reply given (effect left)
+    else told_of (no_space left (effect left) new) given left) (given-none (length w.checkpoints) effect new w none)
+
+-- ---- a table's room
+
+fits_records : (before after records limit : ℕ) → before ≤ limit → Grows before after records → nat_le after limit ≡ nat_le (before + records) limit
+fits_records before after records limit below grows = elim grows.by [
+  | inl less ↦ let one : nat_le after limit ≡ true = let le = less.0 in grind (arith, nat_tests) in
+      let two : nat_le (before + records) limit ≡ true = let none = less.1 in grind (arith, nat_tests) in one ∙ sym two
+  | inr more ↦ ap (λ n. nat_le n limit) more
+]
+
+grown : (before after records limit : ℕ) → before ≤ limit → Grows before after records → nat_le (before + records) limit ≡ false → after - before ≡ records
+grown before after records limit below grows full = elim grows.by [
+  | inl less ↦ let fit : nat_le (before + records) limit ≡ true = let none = less.1 in grind (arith, nat_tests) in absurd (false≢true (sym full ∙ fit))
+  | inr more ↦ omega (arith, more)
+]
+
+module _ (store : Store) (mounts : Mounts) (t : Table) (ours : IsOurs t) (next : World) (new records : ℕ) (grows : Grows (record_count t) (records_in next) records) where
+  abbrev here : World
+  here = world_on store mounts t
+
+  fit-is : fits here next new ≡ has_room t new records
+  fit-is = λ i. nat_le (held-is store mounts t ours i + new) t.blocks && fits_records (record_count t) (records_in next) records t.records ours.sized.fits grows i
+
+  both_full : (a b : Bool) → (a && b) ≡ false → a ≡ true → b ≡ false
+  both_full true b h is = h
+  both_full false b h is = cc
+
+  space-is : has_room t new records ≡ false → no_space here next new ≡ lack_of_room t new records
+  space-is full =
+      ap (λ n. if nat_le (n + new) t.blocks then NoSpace Records (records_in here) (records_in next - records_in here) t.records else NoSpace Blocks n new t.blocks) (held-is store mounts t ours)
+      ∙ elim (nat_le (extent_count t + new) t.blocks) as (λ b. nat_le (extent_count t + new) t.blocks ≡ b → (if b then NoSpace Records (records_in here) (records_in next - records_in here) t.records else NoSpace Blocks (extent_count t) new t.blocks)
+      ≡ (if b then NoSpace Records (record_count t) records t.records else NoSpace Blocks (extent_count t) new t.blocks)) [
+        | true ↦ λ is. ap (λ n. NoSpace Records n (records_in next - n) t.records) (records-is store mounts t ours)
+            ∙ ap (λ n. NoSpace Records (record_count t) n t.records) (grown (record_count t) (records_in next) records t.records ours.sized.fits grows (both_full _ _ full is))
+        | false ↦ λ _. refl
+      ] refl
+
+  -- a call that leads to this world
+  pub room-is : (effect : World → World) (reply : Reply) → effect here ≡ next
+      → with_room here effect new reply ≡ (if has_room t new records then answered_with reply next else answered_with (lack_of_room t new records) here)
+  room-is effect reply leads =
+      room-plain here effect new reply (pick-none store mounts t ours)
+      ∙ ap (λ n. if fits here n new then answered_with reply n else answered_with (no_space here n new) here) leads
+      ∙ ap (λ b. if b then answered_with reply next else answered_with (no_space here next new) here) fit-is
+      ∙ elim (has_room t new records) as (λ b. has_room t new records ≡ b → (if b then answered_with reply next else answered_with (no_space here next new) here) ≡ (if b then answered_with reply next else answered_with (lack_of_room t new records) here)) [
+        | true ↦ λ _. refl
+        | false ↦ λ full. ap (λ r. answered_with r here) (space-is full)
+      ] refl

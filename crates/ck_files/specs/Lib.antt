@@ -1,0 +1,11 @@
+pub mod Plain
+pub mod Allocated
+pub mod Room
+pub mod Changes
+pub mod Reports
+pub mod Mounts
+pub mod Freeze
+pub mod Files
+pub mod Places
+pub mod Planned
+pub mod Built

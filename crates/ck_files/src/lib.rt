@@ -1,0 +1,19 @@
+//! Calls over the table of a volume alone: names, mounts, checkpoints, what is told of them, and what
+//! a call that changes files comes to. Generic over the table; no device.
+#![tactic(auto)]
+
+mod changes;
+mod freeze;
+mod mounts;
+mod names;
+mod planned;
+mod reports;
+mod room;
+
+pub use changes::change_all;
+pub use freeze::create;
+pub use mounts::{mount, mounted_at, umount};
+pub use names::{cls, ls, stat};
+pub use planned::{Planned, plan_changes};
+pub use reports::{ckpts, info};
+pub use room::used;

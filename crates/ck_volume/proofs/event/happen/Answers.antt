@@ -1,0 +1,181 @@
+use Rattle.std.proofs.Common.{◌≡◌, inl, inr, ⊎_elim, arith, ℕ, ◌∷◌, ◌++◌, [], Option, Some, None, MatchOption, IsSome, length, if◌then◌else◌, false, sym, ap, subst, ◌∙◌, rules}
+use Rattle.std.specs.Option.{option_or}
+use mathlib.Core.Bool.{false≢true}
+use Rattle.ck_history.specs.History.{entries_of}
+use Rattle.ck_history.specs.declared.history.History.{History}
+use Rattle.ck_model.specs.declared.entry.Entry.{Entry}
+use Rattle.ck_model.specs.declared.reply.Reply.{Reply}
+use Rattle.ck_model.specs.declared.reply.Reply.TheVariants.{Broken}
+use Rattle.ck_model.specs.World.{World, unmounted}
+use Rattle.ck_model.specs.History.{created_id, is_fault, is_write_fault, is_broken}
+use Rattle.ck_engine.specs.Engine.{disk_of, world_of, KeepsWorld}
+use Rattle.ck_volume.specs.Event.{HasCause, newest}
+use Rattle.ck_volume.specs.Present.{present}
+use Rattle.ck_volume.proofs.CutsAfter.{survives-plain}
+use Rattle.ck_volume.proofs.EventLemmas.{newest-put, added-put, longer-put, is-entry, broken-cause, broken-put, answered-put}
+use Rattle.ck_volume.proofs.event.happen.Goals as goal
+
+no_one : (o : Option ℕ) (n : ℕ) → o ≡ Some n → o ≡ None → ⊥
+no_one o n some none = cc
+
+-- ---- on a broken volume
+
+pub returns-in-Some-clause-survives : goal.returns-in-Some-clause-survives
+returns-in-Some-clause-survives g c = λ none. absurd (no_one c.args.log.now.broken c.in-Some.entry c.in-Some.is none)
+
+pub returns-in-Some-clause-kept : goal.returns-in-Some-clause-kept
+returns-in-Some-clause-kept g c = λ none. absurd (no_one c.args.log.now.broken c.in-Some.entry c.in-Some.is none)
+
+pub returns-in-Some-clause-added : goal.returns-in-Some-clause-added
+returns-in-Some-clause-added g c =
+    let before = entries_of c.args.log.now.history in
+    let after = entries_of c.put.new.self in
+    let put : after ≡ before ++ c.entry_of.result ∷ [] = c.put.ensures.entries in
+    added-put before after c.entry_of.result put
+
+pub returns-in-Some-clause-entry : goal.returns-in-Some-clause-entry
+returns-in-Some-clause-entry g c =
+    let before = entries_of c.args.log.now.history in
+    let after = entries_of c.put.new.self in
+    let put : after ≡ before ++ c.entry_of.result ∷ [] = c.put.ensures.entries in
+    let same : newest after ≡ c.entry_of.result = newest-put before after c.entry_of.result put in
+    is-entry c.args.actor c.args.seq c.args.at (Broken c.in-Some.entry) (newest after) (same ∙ c.entry_of.ensures)
+
+pub returns-in-Some-clause-follows : goal.returns-in-Some-clause-follows
+returns-in-Some-clause-follows g c = λ told texts calls is_call.
+    let before = entries_of c.args.log.now.history in
+    let after = entries_of c.put.new.self in
+    let put : after ≡ before ++ c.entry_of.result ∷ [] = c.put.ensures.entries in
+    let same : newest after ≡ c.entry_of.result = newest-put before after c.entry_of.result put in
+    let w : World = world_of (g.D.Disk.means (disk_of c.args.engine.now)).shows c.args.engine.now in
+    broken-put texts calls w (length (entries_of c.args.log.now.history)) c.args.actor c.args.seq c.args.at c.args.call.now is_call c.args.log.now.broken c.in-Some.entry _ (newest after) c.in-Some.is (longer-put before after c.entry_of.result put) (same ∙ c.entry_of.ensures)
+
+pub returns-in-Some-clause-refused : goal.returns-in-Some-clause-refused
+returns-in-Some-clause-refused g c =
+    let before = entries_of c.args.log.now.history in
+    let after = entries_of c.put.new.self in
+    let put : after ≡ before ++ c.entry_of.result ∷ [] = c.put.ensures.entries in
+    let same : newest after ≡ c.entry_of.result = newest-put before after c.entry_of.result put in
+    let replied : (newest after).reply ≡ Broken c.in-Some.entry = ap (λ (e : Entry). e.reply) (same ∙ c.entry_of.ensures) in
+    subst (λ (o : Option ℕ). MatchOption o (is_broken (newest after).reply ≡ false) (λ number. (newest after).reply ≡ Broken number)) (sym c.in-Some.is) replied
+
+pub returns-in-Some-clause-cause : goal.returns-in-Some-clause-cause
+returns-in-Some-clause-cause g c =
+    let before = entries_of c.args.log.now.history in
+    let after = entries_of c.put.new.self in
+    let put : after ≡ before ++ c.entry_of.result ∷ [] = c.put.ensures.entries in
+    let same : newest after ≡ c.entry_of.result = newest-put before after c.entry_of.result put in
+    let replied : (newest after).reply ≡ Broken c.in-Some.entry = ap (λ (e : Entry). e.reply) (same ∙ c.entry_of.ensures) in
+    broken-cause (g.D.Disk.means (disk_of c.args.engine.now)) c.in-Some.entry (newest after).reply replied
+
+pub returns-in-Some-clause-synced : goal.returns-in-Some-clause-synced
+returns-in-Some-clause-synced g c = λ is_sync ordinary told w keeps.
+    let before = entries_of c.args.log.now.history in
+    let after = entries_of c.put.new.self in
+    let put : after ≡ before ++ c.entry_of.result ∷ [] = c.put.ensures.entries in
+    let same : newest after ≡ c.entry_of.result = newest-put before after c.entry_of.result put in
+    let replied : (newest after).reply ≡ Broken c.in-Some.entry = ap (λ (e : Entry). e.reply) (same ∙ c.entry_of.ensures) in
+    absurd (false≢true (sym ordinary ∙ ap is_fault replied))
+
+pub returns-in-Some-clause-freezes : goal.returns-in-Some-clause-freezes
+returns-in-Some-clause-freezes g c = λ name nodata removable is_create created.
+    let before = entries_of c.args.log.now.history in
+    let after = entries_of c.put.new.self in
+    let put : after ≡ before ++ c.entry_of.result ∷ [] = c.put.ensures.entries in
+    let same : newest after ≡ c.entry_of.result = newest-put before after c.entry_of.result put in
+    let replied : (newest after).reply ≡ Broken c.in-Some.entry = ap (λ (e : Entry). e.reply) (same ∙ c.entry_of.ensures) in
+    absurd (false≢true (subst IsSome (ap created_id replied) created))
+
+-- ---- where it was answered
+
+pub returns-clause-survives : goal.returns-clause-survives
+returns-clause-survives g c = λ whole.
+    let after = entries_of c.put-2.new.self in
+    survives-plain (newest after).given (g.D.Disk.means (disk_of c.args.engine.now)) (g.D.Disk.means (disk_of c.answer-reply.new.engine)) (present c.args.engine.now c.args.log.now) c.answer-reply.ensures.survives
+
+pub returns-clause-kept : goal.returns-clause-kept
+returns-clause-kept g c = λ unbroken told w keeps.
+    let middle = c.answer-reply.new.engine in
+    let new = g.D.Disk.means (disk_of middle) in
+    let here : World = world_of (g.D.Disk.means (disk_of c.args.engine.now)).shows c.args.engine.now in
+    ⊎_elim
+    (λ (same : KeepsWorld new middle w). inl same)
+    (λ (last : KeepsWorld new middle (unmounted here)). inr (0, (omega arith, last)))
+    (c.answer-reply.ensures.kept unbroken told w keeps)
+
+pub returns-clause-added : goal.returns-clause-added
+returns-clause-added g c =
+    let before = entries_of c.args.log.now.history in
+    let after = entries_of c.put-2.new.self in
+    let put : after ≡ before ++ c.entry_of-2.result ∷ [] = c.put-2.ensures.entries ∙ ap (λ (h : History). entries_of h ++ c.entry_of-2.result ∷ []) c.answer-reply.ensures.history in
+    added-put before after c.entry_of-2.result put
+
+pub returns-clause-entry : goal.returns-clause-entry
+returns-clause-entry g c =
+    let before = entries_of c.args.log.now.history in
+    let after = entries_of c.put-2.new.self in
+    let put : after ≡ before ++ c.entry_of-2.result ∷ [] = c.put-2.ensures.entries ∙ ap (λ (h : History). entries_of h ++ c.entry_of-2.result ∷ []) c.answer-reply.ensures.history in
+    let same : newest after ≡ c.entry_of-2.result = newest-put before after c.entry_of-2.result put in
+    is-entry c.args.actor c.args.seq c.args.at c.answer-reply.result (newest after) (same ∙ c.entry_of-2.ensures)
+
+pub returns-clause-follows : goal.returns-clause-follows
+returns-clause-follows g c = λ told texts calls is_call.
+    let unbroken : c.args.log.now.broken ≡ None = search rules in
+    let before = entries_of c.args.log.now.history in
+    let after = entries_of c.put-2.new.self in
+    let put : after ≡ before ++ c.entry_of-2.result ∷ [] = c.put-2.ensures.entries ∙ ap (λ (h : History). entries_of h ++ c.entry_of-2.result ∷ []) c.answer-reply.ensures.history in
+    let same : newest after ≡ c.entry_of-2.result = newest-put before after c.entry_of-2.result put in
+    let w : World = world_of (g.D.Disk.means (disk_of c.args.engine.now)).shows c.args.engine.now in
+    let next : World = world_of (g.D.Disk.means (disk_of c.answer-reply.new.engine)).shows c.answer-reply.new.engine in
+    answered-put texts calls w (length (entries_of c.args.log.now.history)) c.args.actor c.args.seq c.args.at c.args.call.now is_call c.args.log.now.broken c.answer-reply.new.log.broken _ (newest after) c.answer-reply.result next
+    unbroken c.answer-reply.ensures.broken (longer-put before after c.entry_of-2.result put) (same ∙ c.entry_of-2.ensures) (c.answer-reply.ensures.answers told texts) c.answer-reply.ensures.not_refused
+
+pub returns-clause-broken : goal.returns-clause-broken
+returns-clause-broken g c =
+    let unbroken : c.args.log.now.broken ≡ None = search rules in
+    let before = entries_of c.args.log.now.history in
+    let after = entries_of c.put-2.new.self in
+    let put : after ≡ before ++ c.entry_of-2.result ∷ [] = c.put-2.ensures.entries ∙ ap (λ (h : History). entries_of h ++ c.entry_of-2.result ∷ []) c.answer-reply.ensures.history in
+    let same : newest after ≡ c.entry_of-2.result = newest-put before after c.entry_of-2.result put in
+    let replied : (newest after).reply ≡ c.answer-reply.result = ap (λ (e : Entry). e.reply) (same ∙ c.entry_of-2.ensures) in
+    c.answer-reply.ensures.broken
+    ∙ ap (λ (reply : Reply). if is_write_fault reply then Some (length (entries_of c.args.log.now.history)) else None) (sym replied)
+    ∙ ap (λ (o : Option ℕ). option_or o (if is_write_fault (newest after).reply then Some (length (entries_of c.args.log.now.history)) else None)) (sym unbroken)
+
+pub returns-clause-refused : goal.returns-clause-refused
+returns-clause-refused g c =
+    let unbroken : c.args.log.now.broken ≡ None = search rules in
+    let before = entries_of c.args.log.now.history in
+    let after = entries_of c.put-2.new.self in
+    let put : after ≡ before ++ c.entry_of-2.result ∷ [] = c.put-2.ensures.entries ∙ ap (λ (h : History). entries_of h ++ c.entry_of-2.result ∷ []) c.answer-reply.ensures.history in
+    let same : newest after ≡ c.entry_of-2.result = newest-put before after c.entry_of-2.result put in
+    let replied : (newest after).reply ≡ c.answer-reply.result = ap (λ (e : Entry). e.reply) (same ∙ c.entry_of-2.ensures) in
+    subst (λ (o : Option ℕ). MatchOption o (is_broken (newest after).reply ≡ false) (λ number. (newest after).reply ≡ Broken number)) (sym unbroken)
+    (ap is_broken replied ∙ c.answer-reply.ensures.not_refused)
+
+pub returns-clause-cause : goal.returns-clause-cause
+returns-clause-cause g c =
+    let before = entries_of c.args.log.now.history in
+    let after = entries_of c.put-2.new.self in
+    let put : after ≡ before ++ c.entry_of-2.result ∷ [] = c.put-2.ensures.entries ∙ ap (λ (h : History). entries_of h ++ c.entry_of-2.result ∷ []) c.answer-reply.ensures.history in
+    let same : newest after ≡ c.entry_of-2.result = newest-put before after c.entry_of-2.result put in
+    let replied : (newest after).reply ≡ c.answer-reply.result = ap (λ (e : Entry). e.reply) (same ∙ c.entry_of-2.ensures) in
+    subst (HasCause (g.D.Disk.means (disk_of c.args.engine.now)) (g.D.Disk.means (disk_of c.answer-reply.new.engine))) (sym replied) c.answer-reply.ensures.cause
+
+pub returns-clause-synced : goal.returns-clause-synced
+returns-clause-synced g c = λ is_sync ordinary told w keeps.
+    let before = entries_of c.args.log.now.history in
+    let after = entries_of c.put-2.new.self in
+    let put : after ≡ before ++ c.entry_of-2.result ∷ [] = c.put-2.ensures.entries ∙ ap (λ (h : History). entries_of h ++ c.entry_of-2.result ∷ []) c.answer-reply.ensures.history in
+    let same : newest after ≡ c.entry_of-2.result = newest-put before after c.entry_of-2.result put in
+    let replied : (newest after).reply ≡ c.answer-reply.result = ap (λ (e : Entry). e.reply) (same ∙ c.entry_of-2.ensures) in
+    c.answer-reply.ensures.synced is_sync (sym (ap is_fault replied) ∙ ordinary) told w keeps
+
+pub returns-clause-freezes : goal.returns-clause-freezes
+returns-clause-freezes g c = λ name nodata removable is_create created.
+    let before = entries_of c.args.log.now.history in
+    let after = entries_of c.put-2.new.self in
+    let put : after ≡ before ++ c.entry_of-2.result ∷ [] = c.put-2.ensures.entries ∙ ap (λ (h : History). entries_of h ++ c.entry_of-2.result ∷ []) c.answer-reply.ensures.history in
+    let same : newest after ≡ c.entry_of-2.result = newest-put before after c.entry_of-2.result put in
+    let replied : (newest after).reply ≡ c.answer-reply.result = ap (λ (e : Entry). e.reply) (same ∙ c.entry_of-2.ensures) in
+    c.answer-reply.ensures.freezes name nodata removable is_create (subst IsSome (ap created_id replied) created)

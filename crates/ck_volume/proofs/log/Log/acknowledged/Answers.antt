@@ -1,0 +1,14 @@
+use Rattle.std.proofs.Common.{◌≡◌, ◌&&◌, true, sym, ap, ◌∙◌, rules}
+use Rattle.ck_model.specs.declared.entry.Entry.{Entry}
+use Rattle.ck_volume.specs.Causes.{is_sync, is_done}
+use Rattle.ck_history.specs.History.{entries_of}
+use Rattle.ck_volume.specs.Event.{newest}
+use Rattle.ck_volume.proofs.EventLemmas.{newest-last}
+use Rattle.ck_volume.proofs.log.Log.acknowledged.Goals as goal
+
+pub returns-then-is_sync : goal.returns-then-is_sync
+returns-then-is_sync c =
+    let history = entries_of c.args.self.now.history in
+    let last : newest history ≡ c.entry.result.now = newest-last history c.entry.result.now c.length.result c.requires c.length.ensures c.entry.ensures in
+    let sync : is_sync c.args.call.now ≡ true = search rules in
+    c.is_done.ensures ∙ ap (λ (e : Entry). is_done e.reply) (sym last) ∙ ap (λ b. b && is_done (newest history).reply) (sym sync)

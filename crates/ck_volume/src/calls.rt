@@ -1,0 +1,276 @@
+ghost use Rattle.std.specs.Prelude.{◌≡◌, ◌≢◌, ◌<◌, ◌≤◌, ◌+◌, ◌^◌, ◌++◌, ◌∷◌, [], ℕ, false, Some, None, IsTrue, IsOk, IsSome, IfOk, IfErr, OnOk, OnErr, MatchOption, if◌then◌else◌, is_some, length, slice_get};
+ghost use Rattle.std.specs.Option.{option_or};
+ghost use Rattle.ck_disk.specs.Disk.{Image, Rose};
+ghost use Rattle.ck_log.specs.Layout.{IsSized};
+ghost use Rattle.ck_model.specs.declared.reply.Reply.TheVariants as reply;
+ghost use Rattle.ck_model.specs.Streams.{Texts};
+ghost use Rattle.ck_model.specs.World.{unmounted};
+ghost use Rattle.ck_model.specs.History.{CallsBy, numbers_of, is_write_fault, is_broken};
+ghost use Rattle.ck_files.specs.Built.{IsBuilt};
+ghost use Rattle.ck_files.specs.Freeze.{Freezes};
+ghost use Rattle.ck_disk.specs.Runs.{Runs};
+ghost use Rattle.ck_engine.specs.Engine as files;
+ghost use Rattle.ck_engine.specs.Exact.{IsExact};
+ghost use Rattle.ck_engine.specs.Formatted.{IsFormatFault};
+ghost use Rattle.ck_engine.specs.Opened.{IsOpenFault};
+ghost use Rattle.ck_engine.specs.Opened as opened;
+ghost use Rattle.ck_engine.specs.Recovery.{Recovers};
+ghost use Rattle.ck_volume.specs.declared.commit.CommitAnswer.TheVariants as answer;
+ghost use Rattle.ck_volume.specs.declared.event.Turn.TheVariants.{Answered};
+ghost use Rattle.ck_volume.specs.declared.event.Progress.TheVariants.{Fresh};
+ghost use Rattle.ck_volume.specs.Causes.{acknowledges};
+ghost use Rattle.ck_volume.specs.CommitAnswer.{broken_after, committed_after, spoilt_after};
+ghost use Rattle.ck_volume.specs.Event.{newest, Follows, HasCause, IsEntryOf};
+ghost use Rattle.ck_volume.specs.Present.{present};
+ghost use Rattle.ck_volume.specs.Volume.{disk_of, origin_of, table_of, mounts_of, history_of, room_of, length_of, committed_of, spoilt_of, told_of, broken_of, world_of, past_on, KeepsAllButRoom, IsKept, IsBegun, IsOpened, IsFormatted};
+
+use crate::commit::{CommitAnswer, commit};
+use crate::event::{Progress, Turn, happen};
+use crate::log::Log;
+use crate::told::Told;
+use crate::volume::Volume;
+use ck_disk::Disk;
+use ck_engine::{Engine, FormatFault, OpenFault};
+use ck_model::{Call, Entry, NoMemory};
+use std::alloc::Global;
+use std::snapshot::Snapshot;
+
+/// What is left of a volume: its device, and the calls that it answered.
+#[derive(Drop)]
+pub struct Closed<D> {
+    pub disk: D,
+    pub history: Vec<Entry>,
+}
+
+/// The volume whose origin is its device as it stands now.
+fn begun<D: Disk>(alloc: Global, engine: Engine<D>) -> Volume<D>
+    requires begun { opened.IsBegun (D.means (files.disk_of engine)) engine }
+    requires recovers { IsTrue (D.means (files.disk_of engine)).tells → Recovers (D.means (files.disk_of engine)).shows (files.world_of (D.means (files.disk_of engine)).shows engine) }
+    requires kept { IsTrue (D.means (files.disk_of engine)).tells → files.KeepsWorld (D.means (files.disk_of engine)) engine (unmounted (files.world_of (D.means (files.disk_of engine)).shows engine)) }
+    ensures engine { result.engine ≡ engine }
+    ensures begun { IsBegun (D.means (disk_of result)) result }
+    ensures origin { origin_of result ≡ files.disk_of engine }
+    ensures committed { committed_of result ≡ 0 }
+    ensures unspoilt { spoilt_of result ≡ None }
+    ensures told { told_of result ≡ [] }
+{
+    Volume {
+        origin: Snapshot::of(engine.disk()),
+        committed: Snapshot::of(&0),
+        told: Told::Nothing,
+        spoilt: Snapshot::of(&None),
+        log: Log::new(alloc),
+        engine,
+    }
+}
+
+/// Notes how many calls a commit has committed, after so many that were answered.
+fn note_commit(committed: &mut Snapshot<u32>, answered: u32, answer: CommitAnswer)
+    ensures { committed.new.value ≡ committed_after answered committed.old.value answer }
+{
+    if answer == CommitAnswer::Done {
+        *committed = Snapshot::of(&answered);
+    }
+}
+
+/// Notes how many calls a sync has committed, after so many that were answered.
+fn note_sync(committed: &mut Snapshot<u32>, answered: u32, synced: bool)
+    ensures { committed.new.value ≡ (if synced then answered else committed.old.value) }
+{
+    if synced {
+        *committed = Snapshot::of(&answered);
+    }
+}
+
+/// Notes after how many calls a commit broke the volume, where it did.
+fn note_spoilt(spoilt: &mut Snapshot<Option<u32>>, answered: u32, answer: CommitAnswer)
+    ensures { spoilt.new.value ≡ spoilt_after answered spoilt.old.value answer }
+{
+    if answer == CommitAnswer::WriteFault {
+        *spoilt = Snapshot::of(&Some(answered));
+    }
+}
+
+impl<D: Disk> Volume<D> {
+    /// Makes a volume with so many data blocks and records on a device, over whatever stood there.
+    pub fn format(
+        alloc: Global,
+        disk: D,
+        blocks: u32,
+        records: u32,
+    ) -> Result<Volume<D>, FormatFault<D>>
+        requires { IsSized blocks records }
+        ensures formatted { IfOk result (λ volume. IsFormatted blocks records (D.means disk) (D.means (disk_of volume)) volume) }
+        ensures fault { IfErr result (IsFormatFault D.means blocks records disk) }
+        ensures origin { IfOk result (λ volume. origin_of volume ≡ disk_of volume) }
+        ensures committed { IfOk result (λ volume. committed_of volume ≡ 0) }
+        ensures unspoilt { IfOk result (λ volume. spoilt_of volume ≡ None) }
+        ensures told { IfOk result (λ volume. told_of volume ≡ []) }
+    {
+        let engine = Engine::format(alloc, disk, blocks, records)?;
+        Ok(begun(alloc, engine))
+    }
+
+    /// Opens the volume on a device, with the table that was committed last.
+    pub fn open(alloc: Global, disk: D) -> Result<Volume<D>, OpenFault<D>>
+        ensures opened { IfOk result (λ volume. IsOpened (D.means disk) (D.means (disk_of volume)) volume) }
+        ensures fault { IfErr result (IsOpenFault D.means (D.means disk)) }
+        ensures origin { IfOk result (λ volume. origin_of volume ≡ disk_of volume) }
+        ensures committed { IfOk result (λ volume. committed_of volume ≡ 0) }
+        ensures unspoilt { IfOk result (λ volume. spoilt_of volume ≡ None) }
+        ensures told { IfOk result (λ volume. told_of volume ≡ []) }
+    {
+        let engine = Engine::open(alloc, disk)?;
+        Ok(begun(alloc, engine))
+    }
+
+    /// Takes memory for so many calls more than it answered, unless there is room for them already.
+    pub fn reserve(&mut self, calls: u32) -> Result<(), NoMemory>
+        requires { length_of self.old + calls < 2 ^ 32 }
+        ensures room { OnOk result (calls ≤ room_of self.new) }
+        ensures no_less { room_of self.old ≤ room_of self.new }
+        ensures succeeds { calls ≤ room_of self.old → IsOk result }
+        ensures err { OnErr result (room_of self.new ≡ room_of self.old) }
+        ensures history { history_of self.new ≡ history_of self.old }
+        ensures disk { disk_of self.new ≡ disk_of self.old }
+        ensures rest { KeepsAllButRoom self.old self.new }
+        ensures committed { committed_of self.new ≡ committed_of self.old }
+        ensures origin { origin_of self.new ≡ origin_of self.old }
+        ensures spoilt { spoilt_of self.new ≡ spoilt_of self.old }
+        ensures told { told_of self.new ≡ told_of self.old }
+    {
+        self.log.history.reserve(calls)
+    }
+
+    /// Answers an actor's next call, which has this number among the actor's and began at this
+    /// moment, and puts its entry into the history. It takes no memory for that.
+    pub fn event(
+        &mut self,
+        alloc: Global,
+        actor: u32,
+        seq: u32,
+        at: u64,
+        call: &Call,
+        progress: &mut Progress,
+    ) -> Turn
+        requires built { IsBuilt call.now }
+        requires room { 0 < room_of self.old }
+        requires number { seq ≡ length (numbers_of (history_of self.old) actor) + 1 }
+        requires unspoilt { spoilt_of self.old ≡ None }
+        ensures answered { result ≡ Answered }
+        ensures progress { progress.new ≡ Fresh }
+
+        // Its one entry is legal where the history stands.
+        ensures added { history_of self.new ≡ history_of self.old ++ newest (history_of self.new) ∷ [] }
+        ensures room { room_of self.new + 1 ≡ room_of self.old }
+        ensures entry { IsEntryOf actor seq at (newest (history_of self.new)) }
+        ensures follows { IsTrue (D.means (disk_of self.old)).tells → (texts : Texts) (calls : CallsBy) → calls actor seq ≡ Some call.now
+            → Follows texts calls (past_on (D.means (disk_of self.old)).shows self.old) (newest (history_of self.new)) (past_on (D.means (disk_of self.new)).shows self.new) }
+
+        // A checkpoint costs one record: nothing is copied.
+        ensures freezes { Freezes call.now at (newest (history_of self.new)).reply (table_of self.old) (table_of self.new) }
+
+        // A failed write breaks it; once it is broken it says so, and leaves the device alone.
+        ensures broken { broken_of self.new ≡ option_or (broken_of self.old) (if is_write_fault (newest (history_of self.new)).reply then Some (length_of self.old) else None) }
+        ensures refused { MatchOption (broken_of self.old) (is_broken (newest (history_of self.new)).reply ≡ false) (λ entry. (newest (history_of self.new)).reply ≡ reply.Broken entry) }
+        ensures untouched { IsSome (broken_of self.old) → disk_of self.new ≡ disk_of self.old }
+        ensures cause { HasCause (D.means (disk_of self.old)) (D.means (disk_of self.new)) (newest (history_of self.new)).reply }
+        ensures runs { Runs (D.means (disk_of self.old)) (D.means (disk_of self.new)) }
+
+        // A sync that was done has committed all entries up to itself.
+        ensures committed { committed_of self.new ≡ (if acknowledges call.now (newest (history_of self.new)).reply then length_of self.new else committed_of self.old) }
+        ensures origin { origin_of self.new ≡ origin_of self.old }
+        ensures spoilt { spoilt_of self.new ≡ spoilt_of self.old }
+
+        // It remembers the call. Its history is legal from the world that its origin recovers to, up to the present one, and
+        // each image that a crash may have left recovers a cut of it.
+        ensures told { told_of self.new ≡ told_of self.old ++ call.now ∷ [] }
+        ensures kept { IsKept D.means self.new }
+    {
+        *progress = Progress::Fresh;
+        happen(&mut self.engine, &mut self.log, alloc, actor, seq, at, call);
+        self.told = self.told.more(call);
+        let synced = self.log.acknowledged(call);
+        let answered = self.log.history.length();
+        note_sync(&mut self.committed, answered, synced);
+        Turn::Answered
+    }
+
+    /// Commits the present world, which no call does but `sync`: a crash leaves it afterwards, without its mounts.
+    pub fn commit(&mut self, alloc: Global) -> CommitAnswer
+
+        // The world stays, and no entry is made.
+        ensures world { IsTrue (D.means (disk_of self.old)).tells → world_of (D.means (disk_of self.new)).shows self.new ≡ world_of (D.means (disk_of self.old)).shows self.old }
+        ensures mounts { mounts_of self.new ≡ mounts_of self.old }
+        ensures history { history_of self.new ≡ history_of self.old }
+        ensures room { room_of self.new ≡ room_of self.old }
+
+        // A failed write breaks the volume; once it is broken it says so, and leaves the device alone.
+        ensures broken { broken_of self.new ≡ broken_after (length_of self.old) (broken_of self.old) result }
+        ensures refused { (n : ℕ) → broken_of self.old ≡ Some n → result ≡ answer.Broken n }
+        ensures not_refused { broken_of self.old ≡ None → (n : ℕ) → result ≢ answer.Broken n }
+        ensures untouched { IsSome (broken_of self.old) → disk_of self.new ≡ disk_of self.old }
+        ensures cause { result ≡ answer.WriteFault → Rose (D.means (disk_of self.old)).write_faults (D.means (disk_of self.new)).write_faults }
+        ensures runs { Runs (D.means (disk_of self.old)) (D.means (disk_of self.new)) }
+
+        ensures committed_entries { committed_of self.new ≡ committed_after (length_of self.new) (committed_of self.old) result }
+        ensures origin { origin_of self.new ≡ origin_of self.old }
+        ensures spoilt { spoilt_of self.new ≡ spoilt_after (length_of self.new) (spoilt_of self.old) result }
+        ensures told { told_of self.new ≡ told_of self.old }
+
+        // Its history stands as before, and each image now recovers a cut of it with all that was committed.
+        ensures kept { IsKept D.means self.new }
+
+        // Afterwards a crash leaves the present world, and nothing beside it.
+        ensures exact { result ≡ answer.Done → IsTrue (D.means (disk_of self.old)).tells
+            → (image : Image) → (D.means (disk_of self.new)).may_leave image → IsExact (unmounted (world_of (D.means (disk_of self.new)).shows self.new)) image }
+    {
+        let answer = commit(&mut self.engine, &mut self.log, alloc);
+        let answered = self.log.history.length();
+        note_commit(&mut self.committed, answered, answer);
+        note_spoilt(&mut self.spoilt, answered, answer);
+        answer
+    }
+
+    /// How many calls it answered.
+    pub fn length(&self) -> u32
+        ensures { result ≡ length_of self.now }
+    {
+        self.log.history.length()
+    }
+
+    /// The entry of an answered call by its number, counted from 0.
+    pub fn entry(&self, at: u32) -> &Entry
+        requires { at < length_of self.now }
+        ensures { slice_get (history_of self.now) at ≡ Some result.now }
+    {
+        self.log.history.entry(at)
+    }
+
+    /// Whether a write of it has failed.
+    pub fn is_broken(&self) -> bool
+        ensures { result ≡ is_some (broken_of self.now) }
+    {
+        self.log.broken.is_some()
+    }
+
+    /// Ends its use. What wasn't committed is lost.
+    pub fn close(self) -> Closed<D>
+        ensures disk { result.disk ≡ disk_of self }
+        ensures history { result.history.items ≡ history_of self }
+        ensures kept { IsKept D.means self }
+    {
+        let Volume {
+            engine,
+            log,
+            origin: _,
+            committed: _,
+            told: _,
+            spoilt: _,
+        } = self;
+        Closed {
+            disk: engine.into_disk(),
+            history: log.history.into_entries(),
+        }
+    }
+}
