@@ -23,7 +23,7 @@ use Rattle.ck_disk.specs.Runs.{Runs}
 use Rattle.ck_volume.specs.Kept.{Stands}
 use Rattle.ck_engine.specs.Recovery.{Recovers}
 use Rattle.ck_disk.proofs.MomentLaws.{leaves_more}
-use Rattle.ck_volume.proofs.CutsLemmas.{Leaves, broken_or_not, cuts-unsynced, cuts-synced, cuts-uncommitted, cuts-committed}
+use Rattle.ck_volume.proofs.CutsLaws.{Leaves, broken_or_not, cuts-unsynced, cuts-synced, cuts-uncommitted, cuts-committed}
 
 -- ---- which calls acknowledge
 

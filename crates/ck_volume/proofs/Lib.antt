@@ -3,9 +3,9 @@ pub mod BegunLaws
 pub mod ReservedLaws
 pub mod CausesLemmas
 pub mod ToldLaws
-pub mod StandsLemmas
+pub mod StandsLaws
 pub mod StoodLaws
-pub mod CutsLemmas
+pub mod CutsLaws
 pub mod CutsAfter
 pub mod ExactKnown
 pub mod TopCutsLaws

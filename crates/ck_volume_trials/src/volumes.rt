@@ -1,6 +1,6 @@
 // The volume called as the top call calls it: what a commit keeps, and how a failed write breaks it.
 ghost use Rattle.std.specs.Prelude.{◌≡◌, ◌+◌, ◌<◌, None, IfOk, OnOk};
-ghost use Rattle.ck_volume.specs.Built.{IsBuilt};
+ghost use Rattle.ck_files.specs.Built.{IsBuilt};
 ghost use Rattle.ck_volume.specs.Volume.{length_of, spoilt_of};
 
 use ck_disk::{MemDisk, NoMemory};

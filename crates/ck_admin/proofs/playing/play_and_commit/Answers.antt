@@ -15,8 +15,8 @@ use Rattle.ck_volume.specs.Kept.{Stands, broken_by}
 use Rattle.ck_engine.specs.Recovery.{Recovers}
 use Rattle.ck_volume.specs.Told.{AreAnswered}
 use Rattle.ck_volume.specs.Volume.{disk_of, history_of, length_of, committed_of, told_of, origin_of, broken_of, spoilt_of, world_of, present_of}
-use Rattle.ck_volume.proofs.CutsLemmas.{stands-now}
-use Rattle.ck_volume.proofs.StandsLemmas.{by-entry}
+use Rattle.ck_volume.proofs.CutsLaws.{stands-now}
+use Rattle.ck_volume.proofs.StandsLaws.{by-entry}
 use Rattle.ck_volume.proofs.StoodLaws.{stood, breaks-known}
 use Rattle.ck_admin.specs.Crash.{synced_count, LeavesSince, IsPlayed}
 use Rattle.ck_admin.specs.Play.{IsPlay}

@@ -9,8 +9,8 @@ use Rattle.ck_volume.specs.Kept.{broken_by, BreaksFrom, Stands, IsKept}
 use Rattle.ck_volume.specs.Present.{present, history_of, broken_of}
 use Rattle.ck_volume.proofs.CausesLemmas.{causes-none}
 use Rattle.ck_disk.proofs.RunLaws.{runs-none}
-use Rattle.ck_volume.proofs.CutsLemmas.{cuts-begin}
-use Rattle.ck_volume.proofs.StandsLemmas.{or-entry, stands-begins}
+use Rattle.ck_volume.proofs.CutsLaws.{cuts-begin}
+use Rattle.ck_volume.proofs.StandsLaws.{or-entry, stands-begins}
 use Rattle.ck_volume.proofs.calls.begun.Goals as goal
 
 pub invariant_of-result : goal.invariant_of-result

@@ -14,7 +14,7 @@ use Rattle.ck_volume.proofs.CausesLemmas.{causes-still}
 use Rattle.ck_disk.proofs.RunLaws.{runs-more}
 use Rattle.ck_volume.proofs.CutsAfter.{cuts-commit, unbroken-done}
 use Rattle.ck_volume.proofs.ExactKnown.{exact-known}
-use Rattle.ck_volume.proofs.StandsLemmas.{breaks-commit, within-commit, stands-still}
+use Rattle.ck_volume.proofs.StandsLaws.{breaks-commit, within-commit, stands-still}
 use Rattle.ck_volume.proofs.StoodLaws.{stood, ready-known}
 use Rattle.ck_volume.proofs.volume.Volume.commit.Goals as goal
 

@@ -11,7 +11,7 @@ use Rattle.ck_volume.proofs.CausesLemmas.{causes-more}
 use Rattle.ck_disk.proofs.RunLaws.{runs-more}
 use Rattle.ck_volume.proofs.CutsAfter.{cuts-event}
 use Rattle.ck_volume.proofs.EventLemmas.{longer-put}
-use Rattle.ck_volume.proofs.StandsLemmas.{by-entry, or-entry, broken-goes, within-event, replies-more, stands-told}
+use Rattle.ck_volume.proofs.StandsLaws.{by-entry, or-entry, broken-goes, within-event, replies-more, stands-told}
 use Rattle.ck_volume.proofs.StoodLaws.{stood, ready-known}
 use Rattle.ck_volume.proofs.volume.Volume.event.Goals as goal
 
