@@ -28,21 +28,17 @@ fn damage_with(
     last: Record,
     [a, b, c, f]: [NameBytes; 4],
 ) -> Result<Option<u32>, NoMemory> {
-    let records = [
-        COUNTERS,
-        Record::Entry(0, Key::Node(0), Held::Plain(0, Small::Dir)),
-        checkpoint(1, a, Kind::Keeping, false),
-        checkpoint(2, b, Kind::Nodata, false),
-        checkpoint(3, c, Kind::Keeping, true),
-        Record::Entry(0, Key::Name(0, f), Held::Plain(3, Small::To(1))),
-        Record::Entry(2, Key::Name(0, f), Held::Absent),
-        Record::Entry(3, Key::Node(2), Held::Absent),
-        last,
+    let area = [
+        Some(COUNTERS),
+        Some(Record::Entry(0, Key::Node(0), Held::Plain(0, Small::Dir))),
+        Some(checkpoint(1, a, Kind::Keeping, false)),
+        Some(checkpoint(2, b, Kind::Nodata, false)),
+        Some(checkpoint(3, c, Kind::Keeping, true)),
+        Some(Record::Entry(0, Key::Name(0, f), Held::Plain(3, Small::To(1)))),
+        Some(Record::Entry(2, Key::Name(0, f), Held::Absent)),
+        Some(Record::Entry(3, Key::Node(2), Held::Absent)),
+        Some(last),
     ];
-    let mut area = Vec::new(alloc);
-    for record in records {
-        area.push(Some(record))?;
-    }
     first_damage(alloc, 64, 8, &area)
 }
 

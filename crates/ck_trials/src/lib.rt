@@ -4,8 +4,6 @@
 #[cfg(test)]
 mod areas;
 #[cfg(test)]
-mod blocks;
-#[cfg(test)]
 mod devices;
 #[cfg(test)]
 mod listings;
