@@ -9,5 +9,3 @@ mod faults;
 mod runs;
 #[cfg(test)]
 mod streams;
-#[cfg(test)]
-mod volumes;
