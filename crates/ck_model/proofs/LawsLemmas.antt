@@ -9,7 +9,7 @@ use Rattle.ck_model.specs.Cells.{Cells}
 use Rattle.ck_model.specs.World.{World, Checkpoint, empty_world, has_id, shown_by}
 use Rattle.ck_model.specs.Streams.{Texts}
 use Rattle.ck_model.specs.History.{Past, CallsBy, begun, created_id, past_after, past_of, IsLegalFrom, IsLegal, state}
-use Rattle.ck_model.specs.Laws.{IdsRise, IsWorld, frozen_from, frozen, FrozenMapsStay, WorldsStay}
+use Rattle.ck_model.specs.Laws.{IdsRise, IsOrdered, frozen_from, frozen, FrozenMapsStay, OrderStays}
 use Rattle.ck_model.proofs.WorldLemmas.{IsLater, Remain-itself, All-remain, All-append, IdsRise-remain, IdsRise-append, shown_again}
 use Rattle.ck_model.proofs.StepLemmas.{Adds}
 use Rattle.ck_model.proofs.HistoryLemmas.{past_after-adds}
@@ -26,27 +26,27 @@ shown_later c d later h =
 shown_new : (w : World) (new : Checkpoint) → shown_by new.kind w.primary ≡ new.cells → IsShown new
 shown_new w new h = ap (shown_by new.kind) (sym h) ∙ shown_again new.kind w.primary ∙ h
 
-pub IsWorld-adds : (w next : World) (new : Option ℕ) → Adds w new next → IsWorld w → IsWorld next
-IsWorld-adds w next None h world = record {
+pub IsOrdered-adds : (w next : World) (new : Option ℕ) → Adds w new next → IsOrdered w → IsOrdered next
+IsOrdered-adds w next None h world = record {
   ids = subst (IdsRise 1 next.checkpoints) (sym h.id) (IdsRise-remain h.remain 1 w.next.id world.ids);
   marks = All-remain IsShown IsShown shown_later h.remain world.marks;
 }
-IsWorld-adds w next (Some id) h world =
+IsOrdered-adds w next (Some id) h world =
     let one = h.1 in record {
       ids = subst (λ cs. IdsRise 1 cs next.next.id) (sym one.checkpoints) (subst (IdsRise 1 (one.left ++ one.new ∷ [])) (sym one.id) (IdsRise-append 1 one.left one.new w.next.id one.own_id (IdsRise-remain one.remain 1 w.next.id world.ids)));
       marks = subst (AllByRecursion IsShown) (sym one.checkpoints) (All-append IsShown one.left one.new (All-remain IsShown IsShown shown_later one.remain world.marks) (shown_new w one.new one.cells));
     }
 
-worlds_stay_from : (texts : Texts) (calls : CallsBy) (past : Past) (history : List Entry) → IsWorld past.world → IsLegalFrom texts calls past history → IsWorld (past_of texts calls past history).world
-worlds_stay_from texts calls past [] world legal = world
-worlds_stay_from texts calls past (entry ∷ entries) world legal =
-    worlds_stay_from texts calls (past_after texts calls past entry) entries (IsWorld-adds past.world _ (created_id entry.reply) (past_after-adds texts calls past entry legal.0) world) legal.1
+order_stays_from : (texts : Texts) (calls : CallsBy) (past : Past) (history : List Entry) → IsOrdered past.world → IsLegalFrom texts calls past history → IsOrdered (past_of texts calls past history).world
+order_stays_from texts calls past [] world legal = world
+order_stays_from texts calls past (entry ∷ entries) world legal =
+    order_stays_from texts calls (past_after texts calls past entry) entries (IsOrdered-adds past.world _ (created_id entry.reply) (past_after-adds texts calls past entry legal.0) world) legal.1
 
-pub IsWorld-empty : (limits : Limits) → IsWorld (empty_world limits)
-IsWorld-empty limits = record { ids = le_refl 1; marks = tt }
+pub IsOrdered-empty : (limits : Limits) → IsOrdered (empty_world limits)
+IsOrdered-empty limits = record { ids = le_refl 1; marks = tt }
 
-pub worlds_stay_lem : WorldsStay
-worlds_stay_lem texts calls w history world legal = worlds_stay_from texts calls (begun w) history world legal
+pub order_stays_lem : OrderStays
+order_stays_lem texts calls w history world legal = order_stays_from texts calls (begun w) history world legal
 
 -- the checkpoint has the map that was frozen under its id
 abbrev IsFrozen : (ℕ → Option Cells) → Checkpoint → Type 0
@@ -169,7 +169,7 @@ found P id (d ∷ cs) c all h =
     ] refl h
 
 -- the checkpoint that stands with an id has the map that was frozen under it
-pub standing-frozen : (texts : Texts) (calls : CallsBy) (w : World) (history : List Entry) → IsWorld w → IsLegal texts calls w history
+pub standing-frozen : (texts : Texts) (calls : CallsBy) (w : World) (history : List Entry) → IsOrdered w → IsLegal texts calls w history
     → (id : ℕ) (c : Checkpoint) → find (has_id id) (state texts calls w history).checkpoints ≡ Some c → option_map (shown_by c.kind) (frozen texts calls w history id) ≡ Some c.cells
 standing-frozen texts calls w history world legal id c h =
     let there = found (IsFrozen (frozen texts calls w history)) id (state texts calls w history).checkpoints c (frozen_maps_stay_lem texts calls w history world legal) h in

@@ -29,14 +29,14 @@ use Rattle.ck_model.specs.Freezing.{frozen_world, new_id, checkpoint_named, olde
 use Rattle.ck_model.specs.Step.{Outcome, told, outcome_of, answered, done, with_room, changing, created, converted, step}
 use Rattle.ck_model.specs.History.{Past, CallsBy, begun, is_fault, created_id, world_after, past_after, past_of, IsLegalFrom, IsLegal, state}
 use Rattle.ck_model.specs.Tree.{HasName, HasNode, child_at, IsTree, NodesBelow, IsGrown}
-use Rattle.ck_model.specs.Laws.{IsWorld, HasTrees, TreesBegin, CallsKeepTrees, TreesStay}
+use Rattle.ck_model.specs.Laws.{IsOrdered, HasTrees, TreesBegin, CallsKeepTrees, TreesStay}
 use Rattle.ck_model.proofs.CellsLemmas.{get-marked}
 use Rattle.ck_model.proofs.Lookups.{get-insert_same, get-insert_other}
 use Rattle.ck_model.proofs.WorldLemmas.{IsLater, All-remain, All-append}
 use Rattle.ck_model.proofs.SpaceLemmas.{without_picks-rest}
 use Rattle.ck_model.proofs.StepLemmas.{Adds, step-sound}
 use Rattle.ck_model.proofs.HistoryLemmas.{past_after-adds}
-use Rattle.ck_model.proofs.LawsLemmas.{IsWorld-adds}
+use Rattle.ck_model.proofs.LawsLemmas.{IsOrdered-adds}
 use Rattle.ck_model.proofs.Grafts.{same_directory}
 use Rattle.ck_model.proofs.Walks.{child_stands, walk_here}
 use Rattle.ck_model.proofs.FileBytes.{no_byte, same_size, names_kept}
@@ -96,7 +96,7 @@ both : (P Q : Checkpoint → Type 0) (cs : List Checkpoint) → AllByRecursion P
 both P Q [] p q = tt
 both P Q (c ∷ cs) p q = ((p.0, q.0), both P Q cs p.1 q.1)
 
-HasTrees-adds : (w next : World) (new : Option ℕ) → Adds w new next → IsWorld w → HasTrees w → GrowsFrom w next → HasTrees next
+HasTrees-adds : (w next : World) (new : Option ℕ) → Adds w new next → IsOrdered w → HasTrees w → GrowsFrom w next → HasTrees next
 HasTrees-adds w next new adds world trees grows = record { primary = grows.grown; checkpoints = of new adds }
   where
     less : ℕ
@@ -239,13 +239,13 @@ past_after-grows texts calls past entry trees =
       | Some call ↦ world_after-grows texts past.world call entry trees
     ]
 
-trees_stay_from : (texts : Texts) (calls : CallsBy) (past : Past) (history : List Entry) → IsWorld past.world → HasTrees past.world → IsLegalFrom texts calls past history → HasTrees (past_of texts calls past history).world
+trees_stay_from : (texts : Texts) (calls : CallsBy) (past : Past) (history : List Entry) → IsOrdered past.world → HasTrees past.world → IsLegalFrom texts calls past history → HasTrees (past_of texts calls past history).world
 trees_stay_from texts calls past [] world trees legal = trees
 trees_stay_from texts calls past (entry ∷ entries) world trees legal =
     let after = past_after texts calls past entry in
     let adds = past_after-adds texts calls past entry legal.0 in
     trees_stay_from texts calls after entries
-    (IsWorld-adds past.world after.world (created_id entry.reply) adds world)
+    (IsOrdered-adds past.world after.world (created_id entry.reply) adds world)
     (HasTrees-adds past.world after.world (created_id entry.reply) adds world trees (past_after-grows texts calls past entry trees))
     legal.1
 

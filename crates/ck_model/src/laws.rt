@@ -1,4 +1,4 @@
-ghost use Rattle.ck_model.specs.Laws.{CallsKeepTrees, ChangesApply, FrozenMapsStay, TreesBegin, TreesStay, WorldsStay};
+ghost use Rattle.ck_model.specs.Laws.{CallsKeepTrees, CallsKeepWorlds, ChangesApply, FrozenMapsStay, OrderStays, TreesBegin, TreesStay, WorldsBegin, WorldsStay};
 
 /// What a checkpoint froze stays: after every legal history of a well-formed world, each checkpoint
 /// that stands has the primary map of the entry that created it, or, if it stood at the beginning,
@@ -13,10 +13,15 @@ pub fn changes_apply()
     ensures { ChangesApply }
 {}
 
-/// A world stays well formed through every legal history: its checkpoints stand by their ids, all
-/// below the next id, and a nodata one has marks in place of blocks.
+/// What holds of every world that a volume has, from the empty one on, after each call and through
+/// every legal history: its checkpoints stand by their ids, all below the next id; a nodata one has
+/// marks in place of blocks; no two have one name; no stamp and no number of a file that a map has is
+/// still to be given; and in all its maps, but for marks, equal stamps at a key mean equal cells.
 pub fn worlds_stay()
-    ensures { WorldsStay }
+    ensures begin { WorldsBegin }
+    ensures calls { CallsKeepWorlds }
+    ensures histories { WorldsStay }
+    ensures order { OrderStays }
 {}
 
 /// The tree rule: in the empty world's map, in every map after a call on a well-formed world whose
