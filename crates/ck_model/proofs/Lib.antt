@@ -21,6 +21,7 @@ pub mod Grafts
 pub mod FileBytes
 pub mod Prunes
 pub mod FileEdits
+pub mod Primaries
 pub mod TreeCalls
 pub mod LawsLemmas
 pub mod TreeLaws
