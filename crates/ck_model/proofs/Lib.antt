@@ -22,9 +22,11 @@ pub mod FileBytes
 pub mod Prunes
 pub mod FileEdits
 pub mod Primaries
+pub mod CellEdits
 pub mod TreeCalls
 pub mod LawsLemmas
 pub mod TreeLaws
+pub mod WorldLaws
 pub mod PathLemmas
 pub mod ValuesOf
 pub mod Rows
