@@ -1,6 +1,5 @@
 -- The cells that calls put: with the next stamp, and with numbers that were given already.
-use Rattle.std.proofs.Common.{◌≡◌, ◌≢◌, ◌≤◌, ◌<◌, ℕ, ◌+◌, ◌*◌, ◌/◌, ◌%◌, ◌&&◌, ◌||◌, Bool, true, false, not, cond, Option, Some, None, is_some, List, [], ◌∷◌, length, map as list_map, Result, Ok, nat_eq, nat_lt, if◌then◌else◌, refl, sym, ap, subst, ◌∙◌, arith}
-use Rattle.std.specs.Prelude.{⊤}
+use Rattle.std.proofs.Common.{◌≡◌, ◌≤◌, ◌<◌, ℕ, ◌+◌, ◌/◌, ◌%◌, ◌&&◌, ◌||◌, Bool, true, false, not, cond, Option, Some, None, is_some, List, [], ◌∷◌, length, map as list_map, nat_eq, nat_lt, if◌then◌else◌, refl, sym, subst, ◌∙◌, arith}
 use Rattle.std.specs.Ordering.{eq_by_cmp}
 use Rattle.std.specs.List.{AllByRecursion}
 use Rattle.std.specs.Option.{option_or}
@@ -10,7 +9,7 @@ use Rattle.ck_model.specs.declared.key.Key.{Key}
 use Rattle.ck_model.specs.declared.key.Key.TheVariants.{Name, Node, Block}
 use Rattle.ck_model.specs.declared.cell.Cell.{Cell}
 use Rattle.ck_model.specs.declared.cell.Payload.{Payload}
-use Rattle.ck_model.specs.declared.cell.Payload.TheVariants.{To, File, Dir, Bytes}
+use Rattle.ck_model.specs.declared.cell.Payload.TheVariants.{To, File, Bytes}
 use Rattle.ck_model.specs.declared.checkpoint.Counters.{Counters}
 use Rattle.ck_model.specs.declared.reply.Reply.TheVariants.{IsDir, NotEmpty, Root, Spent}
 use Rattle.ck_model.specs.Key.{key_cmp, key_cmp_total, is_of, is_past}
@@ -23,7 +22,7 @@ use Rattle.ck_model.specs.Changing.{is_spent, has_names, file_limit, made, remov
 use Rattle.ck_model.specs.Tree.{HasNode}
 use Rattle.ck_model.specs.Laws.{ContentBelow, NumbersBelow}
 use Rattle.ck_model.proofs.CellsLemmas.{tied-is, get-with_cells, get-retain_keys}
-use Rattle.ck_model.proofs.Walks.{file_parts, directory_parts, name_parts, new_name_parts}
+use Rattle.ck_model.proofs.Walks.{file_parts, directory_parts, new_name_parts}
 use Rattle.ck_model.proofs.Primaries.{Leaves, LeavesPrimary, then-given, unless}
 
 -- ---- what holds of each cell, with its key

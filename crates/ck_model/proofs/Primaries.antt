@@ -1,20 +1,19 @@
 -- What every call leaves of the primary map and the counters, from what each call that changes them leaves.
-use Rattle.std.proofs.Common.{◌≡◌, ℕ, ◌+◌, Bool, true, false, not, Option, Some, None, List, [], ◌∷◌, find, length, replicate, Result, Ok, Err, MatchResult, refl, sym, subst, ok_or, if◌then◌else◌}
+use Rattle.std.proofs.Common.{◌≡◌, ℕ, ◌+◌, Bool, true, false, Some, None, List, [], ◌∷◌, find, length, replicate, Result, Ok, Err, MatchResult, refl, sym, subst, ok_or, if◌then◌else◌}
 use Rattle.std.specs.Prelude.{⊤}
 use Rattle.std.specs.List.{AllByRecursion}
 use Rattle.std.specs.Option.{option_map_or}
 use Rattle.std.specs.FinMap as map
 use Rattle.ck_model.specs.declared.cell.Payload.TheVariants.{File, Dir}
 use Rattle.ck_model.specs.declared.checkpoint.Counters.{Counters}
-use Rattle.ck_model.specs.declared.checkpoint.Kind.TheVariants.{Keeping, Nodata}
 use Rattle.ck_model.specs.declared.call.Call.{Call}
 use Rattle.ck_model.specs.declared.call.Call.TheVariants.{Make, Mkdir, Rm, Rmdir, Mv, Write, Fill, Trunc, Read, List as Ls, Stat, Create, Remove, Nodata as Convert, Removable, Ckpts, Mount, Umount, Cread, Clist, Restore, Backup, Full, Info, Sync}
 use Rattle.ck_model.specs.declared.entry.Entry.{Entry}
 use Rattle.ck_model.specs.declared.reply.Reply.{Reply}
-use Rattle.ck_model.specs.declared.reply.Reply.TheVariants.{Done, Delayed, Created, NoCkpt, NotData, InUse}
+use Rattle.ck_model.specs.declared.reply.Reply.TheVariants.{Done, Delayed, Created, InUse}
 use Rattle.ck_model.specs.Cells.{Cells}
 use Rattle.ck_model.specs.Refusals.{and_then, refuse_if}
-use Rattle.ck_model.specs.World.{World, Checkpoint, keeps_files, is_named}
+use Rattle.ck_model.specs.World.{World, Checkpoint}
 use Rattle.ck_model.specs.Space.{fits, no_space, given_up, without_picks, new_block_count}
 use Rattle.ck_model.specs.Streams.{Texts}
 use Rattle.ck_model.specs.Changing.{made, removed, removed_directory, moved, overwritten, truncated}

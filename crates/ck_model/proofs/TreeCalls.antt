@@ -1,27 +1,22 @@
 -- The calls that change files leave the primary map a tree.
-use Rattle.std.proofs.Common.{◌≡◌, ◌≢◌, ◌≤◌, ℕ, ◌+◌, ◌<◌, ◌&&◌, ◌||◌, Bool, true, false, Some, None, Option, is_some, List, [], ◌∷◌, length, Result, Ok, Err, MatchResult, nat_eq, nat_lt, refl, sym, ap, subst, ◌∙◌, arith, eq-eqb}
-use Rattle.std.specs.Prelude.{⊤}
+use Rattle.std.proofs.Common.{◌≡◌, ◌≤◌, ℕ, ◌+◌, ◌&&◌, ◌||◌, true, false, Some, None, Option, List, [], ◌∷◌, length, nat_eq, nat_lt, refl, sym, ap, subst, ◌∙◌, arith, eq-eqb}
 use Rattle.std.specs.List.{list_any}
-use Rattle.std.specs.Option.{option_and_then}
 use Rattle.std.specs.Ordering.{eq_by_cmp}
 use Rattle.std.specs.FinMap as map
 use Rattle.std.proofs.lemmas.Bool.{false_from_ne_true, or_parts}
 use Rattle.ck_model.specs.declared.key.Key.{Key}
 use Rattle.ck_model.specs.declared.key.Key.TheVariants.{Name, Node}
-use Rattle.ck_model.specs.declared.cell.Cell.{Cell}
 use Rattle.ck_model.specs.declared.cell.Payload.{Payload}
 use Rattle.ck_model.specs.declared.cell.Payload.TheVariants.{To, File, Dir, Bytes}
 use Rattle.ck_model.specs.declared.checkpoint.Counters.{Counters}
-use Rattle.ck_model.specs.declared.reply.Reply.{Reply}
-use Rattle.ck_model.specs.declared.reply.Reply.TheVariants.{IsDir, NotEmpty, Root, TooBig, Spent}
+use Rattle.ck_model.specs.declared.reply.Reply.TheVariants.{IsDir, NotEmpty, Root, Spent}
 use Rattle.ck_model.specs.Key.{key_cmp, is_name_in}
-use Rattle.ck_model.specs.Cells.{Cells, content_at, is_directory, is_directory_at, size_in, size_at}
-use Rattle.ck_model.specs.Refusals.{and_then, refuse_if}
+use Rattle.ck_model.specs.Cells.{Cells, content_at, is_directory, size_in}
 use Rattle.ck_model.specs.Walk.{file_at, directory_at, name_at, new_name_at}
-use Rattle.ck_model.specs.Changes.{with_node, without_file, without_directory, renamed, written, resized}
+use Rattle.ck_model.specs.Changes.{with_node, without_file, without_directory, renamed}
 use Rattle.ck_model.specs.World.{World}
-use Rattle.ck_model.specs.Changing.{is_spent, has_names, with_primary, made, removed, removed_directory, moved, file_limit, overwritten, truncated}
-use Rattle.ck_model.specs.Tree.{HasName, HasNode, IsTree, IsGrown}
+use Rattle.ck_model.specs.Changing.{is_spent, has_names, made, removed, removed_directory, moved, file_limit, overwritten, truncated}
+use Rattle.ck_model.specs.Tree.{IsGrown}
 use Rattle.ck_model.proofs.CellsLemmas.{tied-is}
 use Rattle.ck_model.proofs.Primaries.{Leaves, LeavesPrimary, then-given, unless}
 use Rattle.ck_model.proofs.Walks.{file_parts, directory_parts, name_parts, new_name_parts, last_names}

@@ -1,7 +1,7 @@
 -- Every call and every legal history keep the tree rule.
-use Rattle.std.proofs.Common.{◌≡◌, ◌≢◌, ◌≤◌, ◌⊎◌, inl, inr, ℕ, ◌+◌, ◌<◌, ◌*◌, ◌/◌, ◌%◌, Bool, true, false, not, Some, None, Option, is_some, List, [], ◌∷◌, ◌++◌, find, get_or, length, replicate, Result, Ok, Err, MatchOption, nat_eq, refl, sym, ap, subst, ◌∙◌, arith, ok_or, option_map, if◌then◌else◌}
+use Rattle.std.proofs.Common.{◌≡◌, ◌≢◌, ◌≤◌, ◌⊎◌, inl, inr, ℕ, ◌<◌, ◌*◌, ◌/◌, ◌%◌, true, false, not, Some, None, Option, is_some, List, [], ◌∷◌, get_or, Ok, refl, sym, ap, subst, ◌∙◌, arith, option_map}
 use Rattle.std.specs.List.{AllByRecursion}
-use Rattle.std.specs.Option.{option_and_then, option_map_or}
+use Rattle.std.specs.Option.{option_and_then}
 use Rattle.std.specs.FinMap as map
 use Rattle.std.proofs.lemmas.Bool.{cases_eq}
 use Rattle.ck_model.specs.declared.key.Key.{Key}
@@ -10,30 +10,23 @@ use Rattle.ck_model.specs.declared.cell.Cell.{Cell}
 use Rattle.ck_model.specs.declared.cell.Payload.TheVariants.{File, Dir}
 use Rattle.ck_model.specs.declared.checkpoint.Kind.{Kind}
 use Rattle.ck_model.specs.declared.checkpoint.Kind.TheVariants.{Keeping, Nodata}
-use Rattle.ck_model.specs.declared.checkpoint.Limits.{Limits}
-use Rattle.ck_model.specs.declared.call.Call.{Call}
-use Rattle.ck_model.specs.declared.call.Call.TheVariants.{Make, Mkdir, Rm, Rmdir, Mv, Write, Fill, Trunc, Read, List as Ls, Stat, Create, Remove, Nodata as Convert, Removable, Ckpts, Mount, Umount, Cread, Clist, Restore, Backup, Full, Info, Sync}
 use Rattle.ck_model.specs.declared.entry.Entry.{Entry}
-use Rattle.ck_model.specs.declared.reply.Reply.{Reply}
-use Rattle.ck_model.specs.declared.reply.Reply.TheVariants.{Done, Delayed, Created, NoCkpt, NotData, InUse}
+use Rattle.ck_model.specs.declared.reply.Reply.TheVariants.{NoCkpt, NotData}
 use Rattle.ck_model.specs.Key.{key_cmp}
-use Rattle.ck_model.specs.Cells.{Cells, bytes_in, mark_of, marked, is_directory, is_directory_at, size_at}
+use Rattle.ck_model.specs.Cells.{Cells, bytes_in, mark_of, marked, is_directory}
 use Rattle.ck_model.specs.Walk.{walk_from}
-use Rattle.ck_model.specs.Reading.{file_byte, block_byte}
+use Rattle.ck_model.specs.Reading.{block_byte}
 use Rattle.ck_model.specs.Changes.{cell_of}
-use Rattle.ck_model.specs.Refusals.{and_then, refuse_if}
-use Rattle.ck_model.specs.World.{World, Checkpoint, root_cells, empty_world, keeps_files, is_named, shown_by}
-use Rattle.ck_model.specs.Space.{fits, no_space, given_up, without_picks, new_block_count}
+use Rattle.ck_model.specs.World.{World, Checkpoint, root_cells, keeps_files, is_named, shown_by}
 use Rattle.ck_model.specs.Streams.{Texts}
-use Rattle.ck_model.specs.Freezing.{frozen_world, new_id, checkpoint_named, older_than, any_keeps, as_nodata, with_changed, mounted_id, mounted, dismounted, dropped, with_flag, restored}
-use Rattle.ck_model.specs.Step.{Outcome, told, outcome_of, answered, done, with_room, changing, created, converted, step}
-use Rattle.ck_model.specs.History.{Past, CallsBy, begun, is_fault, created_id, world_after, past_after, past_of, IsLegalFrom, IsLegal, state}
-use Rattle.ck_model.specs.Tree.{HasName, HasNode, child_at, IsTree, NodesBelow, IsGrown}
+use Rattle.ck_model.specs.Freezing.{checkpoint_named, restored}
+use Rattle.ck_model.specs.Step.{step}
+use Rattle.ck_model.specs.History.{Past, CallsBy, begun, created_id, past_after, past_of, IsLegalFrom}
+use Rattle.ck_model.specs.Tree.{HasName, HasNode, IsGrown}
 use Rattle.ck_model.specs.Laws.{IsOrdered, HasTrees, TreesBegin, CallsKeepTrees, TreesStay}
 use Rattle.ck_model.proofs.CellsLemmas.{get-marked}
 use Rattle.ck_model.proofs.Lookups.{get-insert_same, get-insert_other}
 use Rattle.ck_model.proofs.WorldLemmas.{IsLater, All-remain, All-append}
-use Rattle.ck_model.proofs.SpaceLemmas.{without_picks-rest}
 use Rattle.ck_model.proofs.StepLemmas.{Adds, step-sound}
 use Rattle.ck_model.proofs.HistoryLemmas.{past_after-adds}
 use Rattle.ck_model.proofs.LawsLemmas.{IsOrdered-adds}

@@ -1,18 +1,15 @@
 -- What holds of every world stays so in every call and every legal history.
-use Rattle.std.proofs.Common.{◌≡◌, ◌≢◌, ◌≤◌, ◌<◌, ◌⊎◌, inl, inr, ℕ, ◌+◌, Bool, true, false, not, Option, Some, None, List, [], ◌∷◌, ◌++◌, find, option_map, ok_or, Result, Ok, Err, nat_eq, if◌then◌else◌, refl, sym, ap, subst, ◌∙◌, arith}
+use Rattle.std.proofs.Common.{◌≡◌, ◌≢◌, ◌≤◌, ◌<◌, ◌⊎◌, inl, inr, ℕ, Bool, true, false, not, Option, Some, None, List, [], ◌∷◌, ◌++◌, find, option_map, ok_or, Result, Ok, Err, nat_eq, if◌then◌else◌, refl, sym, ap, subst, ◌∙◌, arith}
 use Rattle.std.specs.List.{AllByRecursion}
 use Rattle.std.specs.FinMap as map
-use Rattle.std.proofs.lemmas.Bool.{cases_eq}
 use Rattle.std.proofs.lemmas.Bool.Decides.{nat_tests}
 use Rattle.ck_model.specs.declared.key.Key.{Key}
 use Rattle.ck_model.specs.declared.key.Key.TheVariants.{Name, Node, Block}
 use Rattle.ck_model.specs.declared.cell.Cell.{Cell}
 use Rattle.ck_model.specs.declared.cell.Payload.TheVariants.{To, File, Dir, Bytes}
-use Rattle.ck_model.specs.declared.call.Call.{Call}
 use Rattle.ck_model.specs.declared.checkpoint.Counters.{Counters}
 use Rattle.ck_model.specs.declared.checkpoint.Kind.{Kind}
 use Rattle.ck_model.specs.declared.checkpoint.Kind.TheVariants.{Keeping, Nodata}
-use Rattle.ck_model.specs.declared.checkpoint.Limits.{Limits}
 use Rattle.ck_model.specs.declared.entry.Entry.{Entry}
 use Rattle.ck_model.specs.declared.reply.Reply.{Reply}
 use Rattle.ck_model.specs.declared.reply.Reply.TheVariants.{NoCkpt, NotData}
@@ -20,12 +17,12 @@ use Rattle.ck_model.specs.Key.{key_cmp}
 use Rattle.ck_model.specs.Cells.{Cells, Content, differs, mark_of, marked}
 use Rattle.ck_model.specs.Rules.{KeyBelow}
 use Rattle.ck_model.specs.Changes.{cell_of}
-use Rattle.ck_model.specs.World.{World, Checkpoint, root_cells, empty_world, keeps_files, is_named, shown_by}
+use Rattle.ck_model.specs.World.{World, Checkpoint, root_cells, keeps_files, is_named, shown_by}
 use Rattle.ck_model.specs.Streams.{Texts}
 use Rattle.ck_model.specs.Freezing.{checkpoint_named, restored}
 use Rattle.ck_model.specs.Step.{step}
-use Rattle.ck_model.specs.History.{Past, CallsBy, begun, created_id, past_after, past_of, IsLegalFrom, IsLegal, state}
-use Rattle.ck_model.specs.Laws.{IsOrdered, StampsBelow, ContentBelow, NumbersBelow, OfOneHistory, Agree, EachTwo, IsWorld, WorldsBegin, CallsKeepWorlds, WorldsStay}
+use Rattle.ck_model.specs.History.{Past, CallsBy, begun, created_id, past_after, past_of, IsLegalFrom}
+use Rattle.ck_model.specs.Laws.{StampsBelow, ContentBelow, NumbersBelow, OfOneHistory, Agree, EachTwo, IsWorld, WorldsBegin, CallsKeepWorlds, WorldsStay}
 use Rattle.ck_model.proofs.CellsLemmas.{get-marked, stamp-mark_of}
 use Rattle.ck_model.proofs.Lookups.{cases_key, get-insert_same, get-insert_other}
 use Rattle.ck_model.proofs.WorldLemmas.{IsLater, Remain, none, keep, leave, All-remain, All-append, shown_again, marked-shown_by}
@@ -33,7 +30,7 @@ use Rattle.ck_model.proofs.StepLemmas.{Adds, step-sound}
 use Rattle.ck_model.proofs.HistoryLemmas.{past_after-adds}
 use Rattle.ck_model.proofs.LawsLemmas.{IsOrdered-adds, IsOrdered-empty}
 use Rattle.ck_model.proofs.Primaries.{Leaves, LeavesPrimary, then-given, unless, found_of, Primaries, step-primary, past_after-primary}
-use Rattle.ck_model.proofs.CellEdits.{IsNew, IsOldOrNew, old, new, IsEdit, IsEdited, made-edited, removed-edited, removed_directory-edited, moved-edited, overwritten-edited, truncated-edited}
+use Rattle.ck_model.proofs.CellEdits.{IsOldOrNew, old, new, IsEdit, IsEdited, made-edited, removed-edited, removed_directory-edited, moved-edited, overwritten-edited, truncated-edited}
 
 -- ---- maps of one history
 
@@ -127,9 +124,10 @@ EachTwo-remain : (S : Checkpoint → Type 0) (R : Checkpoint → Checkpoint → 
     → ((c d x y : Checkpoint) → IsLater c x → IsLater d y → S c → S d → R c d → R x y)
     → {cs ds : List Checkpoint} → Remain cs ds → AllByRecursion S cs → EachTwo R cs → EachTwo R ds
 EachTwo-remain S R step none all h = tt
-EachTwo-remain S R step (keep {c = c} {d = x} {cs = cs} {ds = ds} later rest) all h =
-    (All-remain (λ d. S d × R c d) (R x) (λ d y also both. step c d x y later also all.0 both.0 both.1) rest (both S (R c) cs all.1 h.0),
-    EachTwo-remain S R step rest all.1 h.1)
+EachTwo-remain S R step (keep {c = c} {d = x} {cs = cs} {ds = ds} later rest) all h = (
+  All-remain (λ d. S d × R c d) (R x) (λ d y also both. step c d x y later also all.0 both.0 both.1) rest (both S (R c) cs all.1 h.0),
+  EachTwo-remain S R step rest all.1 h.1,
+)
 EachTwo-remain S R step (leave rest) all h = EachTwo-remain S R step rest all.1 h.1
 
 EachTwo-append : (R : Checkpoint → Checkpoint → Type 0) (cs : List Checkpoint) (last : Checkpoint) → EachTwo R cs → AllByRecursion (λ c. R c last) cs → EachTwo R (cs ++ last ∷ [])
@@ -277,9 +275,10 @@ agree-among p [] reply c keeping h found = tt
 agree-among p (d ∷ cs) reply c keeping h found =
     elim (p d) as (λ b. ok_or (if b then Some d else find p cs) reply ≡ Ok c → Agree Keeping c.cells d × AllByRecursion (Agree Keeping c.cells) cs) [
       | true ↦ λ same.
-          let is : d ≡ c = cc in
-          (subst (λ x. Agree Keeping c.cells x) (sym is) (subst (λ k. OfOneHistory (shown_by k c.cells) c.cells) (sym keeping) (OfOneHistory-itself c.cells)),
-          subst (λ k. AllByRecursion (Agree k c.cells) cs) keeping (subst (λ x. AllByRecursion (AgreeTwo x) cs) is h.0))
+          let is : d ≡ c = cc in (
+            subst (λ x. Agree Keeping c.cells x) (sym is) (subst (λ k. OfOneHistory (shown_by k c.cells) c.cells) (sym keeping) (OfOneHistory-itself c.cells)),
+            subst (λ k. AllByRecursion (Agree k c.cells) cs) keeping (subst (λ x. AllByRecursion (AgreeTwo x) cs) is h.0),
+          )
       | false ↦ λ rest.
           let pair = found_of (AgreeTwo d) p cs reply c h.0 rest in
           let turned = OfOneHistory-turned (shown_by c.kind d.cells) (shown_by d.kind c.cells) pair in
