@@ -67,7 +67,7 @@ frozen_later maps more c d later h =
     subst (λ id. option_map (shown_by d.kind) (option_or (maps id) (more id)) ≡ Some d.cells) (sym later.id) (shown_since (maps c.id) (more c.id) c d later h)
 
 -- the primary map, under the id of a new checkpoint if there is one
-abbrev new_map : Option ℕ → Cells → ℕ → Option Cells
+abbrev pub new_map : Option ℕ → Cells → ℕ → Option Cells
 new_map new primary id = if option_map_or (nat_eq id) new false then Some primary else None
 
 new_map-own : (new id : ℕ) (primary : Cells) → new ≡ id → new_map (Some new) primary id ≡ Some primary
@@ -95,7 +95,7 @@ Keeps-adds maps w next (Some new) h keeps =
           ap (λ o. option_or o (more id)) (keeps.unused id (omega arith)) ∙ new_map-other new id w.primary (omega (arith, h.0));
     }
 
-joined : (o p : Option Cells) (b : Bool) (primary : Cells) → option_or (option_or o (if b then Some primary else None)) p ≡ option_or o (if b then Some primary else p)
+pub joined : (o p : Option Cells) (b : Bool) (primary : Cells) → option_or (option_or o (if b then Some primary else None)) p ≡ option_or o (if b then Some primary else p)
 joined None p true primary = refl
 joined None p false primary = refl
 joined (Some m) p b primary = refl

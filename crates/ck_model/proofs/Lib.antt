@@ -27,6 +27,7 @@ pub mod TreeCalls
 pub mod LawsLemmas
 pub mod TreeLaws
 pub mod WorldLaws
+pub mod FrozenLaws
 pub mod PathLemmas
 pub mod ValuesOf
 pub mod Rows

@@ -62,7 +62,7 @@ differs-turned (Some x) (Some y) h = turned x.stamp y.stamp h
     turned : (m n : ℕ) → not (nat_eq m n) ≡ false → not (nat_eq n m) ≡ false
     turned m n h = grind (arith, nat_tests)
 
-OfOneHistory-turned : (a b : Cells) → OfOneHistory a b → OfOneHistory b a
+pub OfOneHistory-turned : (a b : Cells) → OfOneHistory a b → OfOneHistory b a
 OfOneHistory-turned a b h key same = sym (h key (differs-turned (map.get b key) (map.get a key) same))
 
 OfOneHistory-marked : (a b : Cells) → OfOneHistory a b → OfOneHistory (marked a) (marked b)
@@ -70,7 +70,7 @@ OfOneHistory-marked a b h key same =
     let alike : differs (map.get a key) (map.get b key) ≡ false = sym (differs-marked key (map.get a key) (map.get b key)) ∙ (λ i. differs (sym (get-marked a key) i) (sym (get-marked b key) i)) ∙ same in
     get-marked a key ∙ ap (option_map (mark_of key)) (h key alike) ∙ sym (get-marked b key)
 
-OfOneHistory-itself : (a : Cells) → OfOneHistory a a
+pub OfOneHistory-itself : (a : Cells) → OfOneHistory a a
 OfOneHistory-itself a key same = refl
 
 shown-marked : (kind : Kind) (cells : Cells) → shown_by kind (marked cells) ≡ marked cells
@@ -90,7 +90,7 @@ newer_differs x (Some y) older h = apart x.stamp y.stamp (older y refl) h
     apart : (m n : ℕ) → n < m → not (nat_eq m n) ≡ false → ⊥
     apart m n less h = grind (arith, nat_tests)
 
-agree-edit : (kind : Kind) (before after cells : Cells) (limit stamp : ℕ) → IsEdit before limit stamp after → StampsBelow stamp cells → OfOneHistory (shown_by kind before) cells → OfOneHistory (shown_by kind after) cells
+pub agree-edit : (kind : Kind) (before after cells : Cells) (limit stamp : ℕ) → IsEdit before limit stamp after → StampsBelow stamp cells → OfOneHistory (shown_by kind before) cells → OfOneHistory (shown_by kind after) cells
 agree-edit kind before after cells limit stamp edit below h key same = on (map.get after key) refl
   where
     on : (o : Option Cell) → map.get after key ≡ o → map.get (shown_by kind after) key ≡ map.get cells key
@@ -116,7 +116,7 @@ both : (P Q : Checkpoint → Type 0) (cs : List Checkpoint) → AllByRecursion P
 both P Q [] p q = tt
 both P Q (c ∷ cs) p q = ((p.0, q.0), both P Q cs p.1 q.1)
 
-each_of : (P Q : Checkpoint → Type 0) → ((c : Checkpoint) → P c → Q c) → (cs : List Checkpoint) → AllByRecursion P cs → AllByRecursion Q cs
+pub each_of : (P Q : Checkpoint → Type 0) → ((c : Checkpoint) → P c → Q c) → (cs : List Checkpoint) → AllByRecursion P cs → AllByRecursion Q cs
 each_of P Q step [] h = tt
 each_of P Q step (c ∷ cs) h = (step c h.0, each_of P Q step cs h.1)
 
@@ -212,7 +212,7 @@ NumbersBelow-shown next kind cells h key cell is = on (map.get cells key) refl (
         let low = h key x there in
         (low.0, subst (λ c. ContentBelow next c.payload) alike (content-shown next kind key x low.1))
 
-StampsBelow-more : (next more : ℕ) (cells : Cells) → next ≤ more → StampsBelow next cells → StampsBelow more cells
+pub StampsBelow-more : (next more : ℕ) (cells : Cells) → next ≤ more → StampsBelow next cells → StampsBelow more cells
 StampsBelow-more next more cells le h key cell is = let low = h key cell is in omega (arith, low, le)
 
 key_more : (next more : ℕ) (key : Key) → next ≤ more → KeyBelow next key → KeyBelow more key
@@ -270,7 +270,7 @@ left-follows w world (Ok next) h = edited-follows w world next.primary next.next
 left-follows w world (Err reply) h = tt
 
 -- a data checkpoint among these agrees with all of them
-agree-among : (p : Checkpoint → Bool) (cs : List Checkpoint) (reply : Reply) (c : Checkpoint) → c.kind ≡ Keeping → EachTwo AgreeTwo cs → ok_or (find p cs) reply ≡ Ok c → AllByRecursion (Agree Keeping c.cells) cs
+pub agree-among : (p : Checkpoint → Bool) (cs : List Checkpoint) (reply : Reply) (c : Checkpoint) → c.kind ≡ Keeping → EachTwo AgreeTwo cs → ok_or (find p cs) reply ≡ Ok c → AllByRecursion (Agree Keeping c.cells) cs
 agree-among p [] reply c keeping h found = tt
 agree-among p (d ∷ cs) reply c keeping h found =
     elim (p d) as (λ b. ok_or (if b then Some d else find p cs) reply ≡ Ok c → Agree Keeping c.cells d × AllByRecursion (Agree Keeping c.cells) cs) [
@@ -285,7 +285,7 @@ agree-among p (d ∷ cs) reply c keeping h found =
           (subst (λ k. OfOneHistory (shown_by d.kind c.cells) (shown_by k d.cells)) keeping turned, agree-among p cs reply c keeping h.1 rest)
     ] found
 
-keeping_of : (kind : Kind) → not (keeps_files kind) ≡ false → kind ≡ Keeping
+pub keeping_of : (kind : Kind) → not (keeps_files kind) ≡ false → kind ≡ Keeping
 keeping_of Keeping h = refl
 keeping_of Nodata h = cc
 
@@ -410,13 +410,15 @@ calls_keep_worlds_lem texts w actor at call world =
     let outcome = step texts w actor at call in
     IsWorld-adds w outcome.next world (step-primary texts w actor at call (Follows w) (follows w world)) (created_id outcome.reply) (step-sound texts w actor at call).adds
 
+-- the world after an entry
+pub IsWorld-after : (texts : Texts) (calls : CallsBy) (past : Past) (entry : Entry) → IsWorld past.world → IsLegalNext texts calls past entry → IsWorld (past_after texts calls past entry).world
+IsWorld-after texts calls past entry world legal =
+    IsWorld-adds past.world (past_after texts calls past entry).world world (past_after-primary texts calls past entry (Follows past.world) (follows past.world world)) (created_id entry.reply) (past_after-adds texts calls past entry legal)
+
 worlds_stay_from : (texts : Texts) (calls : CallsBy) (past : Past) (history : List Entry) → IsWorld past.world → IsLegalFrom texts calls past history → IsWorld (past_of texts calls past history).world
 worlds_stay_from texts calls past [] world legal = world
 worlds_stay_from texts calls past (entry ∷ entries) world legal =
-    let after = past_after texts calls past entry in
-    worlds_stay_from texts calls after entries
-    (IsWorld-adds past.world after.world world (past_after-primary texts calls past entry (Follows past.world) (follows past.world world)) (created_id entry.reply) (past_after-adds texts calls past entry legal.0))
-    legal.1
+    worlds_stay_from texts calls (past_after texts calls past entry) entries (IsWorld-after texts calls past entry world legal.0) legal.1
 
 pub worlds_stay_lem : WorldsStay
 worlds_stay_lem texts calls w history world legal = worlds_stay_from texts calls (begun w) history world legal

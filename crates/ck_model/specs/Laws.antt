@@ -1,5 +1,5 @@
 -- What follows of the definitions alone.
-use Rattle.std.specs.Prelude.{◌≡◌, ◌≢◌, ◌≤◌, ◌<◌, ⊤, ℕ, ◌+◌, false, List, [], ◌∷◌, Option, Some, None, nat_eq, if◌then◌else◌, find}
+use Rattle.std.specs.Prelude.{◌≡◌, ◌≢◌, ◌≤◌, ◌<◌, ⊤, ℕ, ◌+◌, false, List, [], ◌∷◌, Option, Some, None, IfSome, nat_eq, if◌then◌else◌, find}
 use Rattle.std.specs.List.{AllByRecursion}
 use Rattle.std.specs.Option.{option_map, option_or, option_map_or}
 use Rattle.std.specs.FinMap as map
@@ -112,9 +112,27 @@ FrozenMapsStay =
     (λ checkpoint. option_map (shown_by checkpoint.kind) (frozen texts calls w history checkpoint.id) ≡ Some checkpoint.cells)
     (state texts calls w history).checkpoints
 
+-- the checkpoint with this id isn't one that is nodata in this world
+abbrev pub KeptData : World → ℕ → Type 0
+KeptData w id = IfSome (find (has_id id) w.checkpoints) (λ checkpoint. checkpoint.kind ≡ Keeping)
+
+-- what was frozen under two ids, with its data, is of one history
+abbrev pub FrozenMapsAgree : Type 0
+FrozenMapsAgree =
+    (texts : Texts) (calls : CallsBy) (w : World) (history : List Entry) → IsWorld w → IsLegal texts calls w history →
+    (id later : ℕ) (a b : Cells) → KeptData w id → KeptData w later →
+    frozen texts calls w history id ≡ Some a → frozen texts calls w history later ≡ Some b → OfOneHistory a b
+
 -- what changed from one map to another, applied to the first one's image, gives the second one's
 abbrev pub ChangesApply : Type 0
 ChangesApply = (a b : Cells) → OfOneHistory a b → applied (image a) (changed a b) ≡ image b
+
+-- so it does for any two maps that were frozen in one history, with their data
+abbrev pub FrozenChangesApply : Type 0
+FrozenChangesApply =
+    (texts : Texts) (calls : CallsBy) (w : World) (history : List Entry) → IsWorld w → IsLegal texts calls w history →
+    (id later : ℕ) (a b : Cells) → KeptData w id → KeptData w later →
+    frozen texts calls w history id ≡ Some a → frozen texts calls w history later ≡ Some b → applied (image a) (changed a b) ≡ image b
 
 -- the primary map and those of all checkpoints are trees
 pub record HasTrees (w : World) : Type 0 where

@@ -1,10 +1,18 @@
-ghost use Rattle.ck_model.specs.Laws.{CallsKeepTrees, CallsKeepWorlds, ChangesApply, FrozenMapsStay, OrderStays, TreesBegin, TreesStay, WorldsBegin, WorldsStay};
+ghost use Rattle.ck_model.specs.Laws.{CallsKeepTrees, CallsKeepWorlds, ChangesApply, FrozenChangesApply, FrozenMapsAgree, FrozenMapsStay, OrderStays, TreesBegin, TreesStay, WorldsBegin, WorldsStay};
 
 /// What a checkpoint froze stays: after every legal history of a well-formed world, each checkpoint
 /// that stands has the primary map of the entry that created it, or, if it stood at the beginning,
 /// its own map of then. Where it is nodata, it has that map with marks in place of the blocks.
 pub fn frozen_maps_stay()
     ensures { FrozenMapsStay }
+{}
+
+/// The maps that are frozen in one history, with their data, are of one history: at a key at which two
+/// of them have equal stamps, they hold the same. So what changed from one to the other, applied to
+/// the list of the first one's keys and contents, gives that of the other.
+pub fn frozen_maps_agree()
+    ensures agree { FrozenMapsAgree }
+    ensures apply { FrozenChangesApply }
 {}
 
 /// What changed from one map to another, applied to the list of the first one's keys and contents,
