@@ -1,5 +1,5 @@
 -- Maps that are frozen in one history are of one history.
-use Rattle.std.proofs.Common.{◌≡◌, ◌≤◌, ◌<◌, ℕ, ◌+◌, Bool, true, false, not, Option, Some, None, option_map, IfSome, List, [], ◌∷◌, ◌++◌, find, ok_or, Result, Ok, Err, nat_eq, if◌then◌else◌, refl, sym, ap, subst, ◌∙◌, arith}
+use Rattle.std.proofs.Common.{◌≡◌, ℕ, true, false, not, Option, Some, None, option_map, IfSome, List, [], ◌∷◌, find, ok_or, Result, Ok, Err, nat_eq, if◌then◌else◌, refl, sym, ap, subst, ◌∙◌, arith}
 use Rattle.std.specs.List.{AllByRecursion}
 use Rattle.std.specs.Option.{option_and_then, option_or, option_map_or}
 use Rattle.ck_model.specs.declared.cell.Payload.TheVariants.{File, Dir}
@@ -11,10 +11,10 @@ use Rattle.ck_model.specs.declared.reply.Reply.{Reply}
 use Rattle.ck_model.specs.declared.reply.Reply.TheVariants.{NoCkpt, NotData}
 use Rattle.ck_model.specs.Cells.{Cells}
 use Rattle.ck_model.specs.World.{World, Checkpoint, keeps_files, is_named, has_id, shown_by}
-use Rattle.ck_model.specs.Streams.{Texts, image, changed, applied}
+use Rattle.ck_model.specs.Streams.{Texts}
 use Rattle.ck_model.specs.Freezing.{checkpoint_named, restored}
-use Rattle.ck_model.specs.History.{Past, CallsBy, begun, created_id, past_after, past_of, IsLegalFrom, IsLegal}
-use Rattle.ck_model.specs.Laws.{StampsBelow, OfOneHistory, Agree, IsWorld, KeptData, frozen_from, frozen, FrozenMapsAgree, FrozenChangesApply}
+use Rattle.ck_model.specs.History.{Past, CallsBy, begun, created_id, past_after, IsLegalFrom}
+use Rattle.ck_model.specs.Laws.{StampsBelow, OfOneHistory, Agree, IsWorld, KeptData, frozen_from, FrozenMapsAgree, FrozenChangesApply}
 use Rattle.ck_model.proofs.StreamsLemmas.{applied-changed}
 use Rattle.ck_model.proofs.WorldLemmas.{IsLater, All-remain, All-append}
 use Rattle.ck_model.proofs.StepLemmas.{Adds}

@@ -21,7 +21,7 @@ use Rattle.ck_model.specs.World.{World, Checkpoint, root_cells, keeps_files, is_
 use Rattle.ck_model.specs.Streams.{Texts}
 use Rattle.ck_model.specs.Freezing.{checkpoint_named, restored}
 use Rattle.ck_model.specs.Step.{step}
-use Rattle.ck_model.specs.History.{Past, CallsBy, begun, created_id, past_after, past_of, IsLegalFrom}
+use Rattle.ck_model.specs.History.{Past, CallsBy, begun, created_id, past_after, past_of, IsLegalNext, IsLegalFrom}
 use Rattle.ck_model.specs.Laws.{StampsBelow, ContentBelow, NumbersBelow, OfOneHistory, Agree, EachTwo, IsWorld, WorldsBegin, CallsKeepWorlds, WorldsStay}
 use Rattle.ck_model.proofs.CellsLemmas.{get-marked, stamp-mark_of}
 use Rattle.ck_model.proofs.Lookups.{cases_key, get-insert_same, get-insert_other}
