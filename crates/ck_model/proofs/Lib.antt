@@ -28,6 +28,7 @@ pub mod LawsLemmas
 pub mod TreeLaws
 pub mod WorldLaws
 pub mod FrozenLaws
+pub mod TableLaws
 pub mod PathLemmas
 pub mod ValuesOf
 pub mod Rows

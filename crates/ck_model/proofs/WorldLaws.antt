@@ -65,7 +65,7 @@ differs-turned (Some x) (Some y) h = turned x.stamp y.stamp h
 pub OfOneHistory-turned : (a b : Cells) → OfOneHistory a b → OfOneHistory b a
 OfOneHistory-turned a b h key same = sym (h key (differs-turned (map.get b key) (map.get a key) same))
 
-OfOneHistory-marked : (a b : Cells) → OfOneHistory a b → OfOneHistory (marked a) (marked b)
+pub OfOneHistory-marked : (a b : Cells) → OfOneHistory a b → OfOneHistory (marked a) (marked b)
 OfOneHistory-marked a b h key same =
     let alike : differs (map.get a key) (map.get b key) ≡ false = sym (differs-marked key (map.get a key) (map.get b key)) ∙ (λ i. differs (sym (get-marked a key) i) (sym (get-marked b key) i)) ∙ same in
     get-marked a key ∙ ap (option_map (mark_of key)) (h key alike) ∙ sym (get-marked b key)
@@ -183,7 +183,7 @@ agree-later c d x y later also shown other h =
 
 -- ---- marks keep stamps and numbers
 
-StampsBelow-shown : (next : ℕ) (kind : Kind) (cells : Cells) → StampsBelow next cells → StampsBelow next (shown_by kind cells)
+pub StampsBelow-shown : (next : ℕ) (kind : Kind) (cells : Cells) → StampsBelow next cells → StampsBelow next (shown_by kind cells)
 StampsBelow-shown next kind cells h key cell is = on (map.get cells key) refl (sym (get-shown kind cells key) ∙ is)
   where
     on : (o : Option Cell) → map.get cells key ≡ o → option_map (shown_cell kind key) o ≡ Some cell → cell.stamp < next
@@ -202,7 +202,7 @@ content-shown : (next : ℕ) (kind : Kind) (key : Key) (x : Cell) → ContentBel
 content-shown next Keeping key x h = h
 content-shown next Nodata key x h = content-marked next key x h
 
-NumbersBelow-shown : (next : ℕ) (kind : Kind) (cells : Cells) → NumbersBelow next cells → NumbersBelow next (shown_by kind cells)
+pub NumbersBelow-shown : (next : ℕ) (kind : Kind) (cells : Cells) → NumbersBelow next cells → NumbersBelow next (shown_by kind cells)
 NumbersBelow-shown next kind cells h key cell is = on (map.get cells key) refl (sym (get-shown kind cells key) ∙ is)
   where
     on : (o : Option Cell) → map.get cells key ≡ o → option_map (shown_cell kind key) o ≡ Some cell → KeyBelow next key × ContentBelow next cell.payload

@@ -12,8 +12,11 @@ use Rattle.ck_model.specs.declared.checkpoint.Kind.TheVariants.{Keeping}
 use Rattle.ck_model.specs.declared.checkpoint.Limits.{Limits}
 use Rattle.ck_model.specs.declared.entry.Entry.{Entry}
 use Rattle.ck_model.specs.Cells.{Cells, Content, differs}
-use Rattle.ck_model.specs.Rules.{KeyBelow}
-use Rattle.ck_model.specs.World.{World, Checkpoint, empty_world, has_id, shown_by}
+use Rattle.ck_model.specs.Table.{Table, IsTable}
+use Rattle.ck_model.specs.Rules.{KeyBelow, IsOrderly}
+use Rattle.ck_model.specs.Values.{Store}
+use Rattle.ck_model.specs.Standing.{world_on}
+use Rattle.ck_model.specs.World.{World, Checkpoint, Mounts, empty_world, has_id, shown_by}
 use Rattle.ck_model.specs.Streams.{Texts, image, changed, applied}
 use Rattle.ck_model.specs.Step.{step}
 use Rattle.ck_model.specs.Tree.{IsGrown}
@@ -74,6 +77,10 @@ pub record IsWorld (w : World) : Type 0 where
 -- the empty world is one
 abbrev pub WorldsBegin : Type 0
 WorldsBegin = (limits : Limits) → IsWorld (empty_world limits)
+
+-- every table that obeys the rules stands for one
+abbrev pub TablesStand : Type 0
+TablesStand = (store : Store) (mounts : Mounts) (t : Table) → IsTable t → IsOrderly t → IsWorld (world_on store mounts t)
 
 -- every call leaves one
 abbrev pub CallsKeepWorlds : Type 0

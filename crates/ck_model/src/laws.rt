@@ -1,4 +1,4 @@
-ghost use Rattle.ck_model.specs.Laws.{CallsKeepTrees, CallsKeepWorlds, ChangesApply, FrozenChangesApply, FrozenMapsAgree, FrozenMapsStay, OrderStays, TreesBegin, TreesStay, WorldsBegin, WorldsStay};
+ghost use Rattle.ck_model.specs.Laws.{CallsKeepTrees, CallsKeepWorlds, ChangesApply, FrozenChangesApply, FrozenMapsAgree, FrozenMapsStay, OrderStays, TablesStand, TreesBegin, TreesStay, WorldsBegin, WorldsStay};
 
 /// What a checkpoint froze stays: after every legal history of a well-formed world, each checkpoint
 /// that stands has the primary map of the entry that created it, or, if it stood at the beginning,
@@ -21,12 +21,13 @@ pub fn changes_apply()
     ensures { ChangesApply }
 {}
 
-/// What holds of every world that a volume has, from the empty one on, after each call and through
-/// every legal history: its checkpoints stand by their ids, all below the next id; a nodata one has
+/// What holds of every world that a volume has, from the empty one or that of a table that obeys the
+/// rules on, after each call and through every legal history: its checkpoints stand by their ids, all below the next id; a nodata one has
 /// marks in place of blocks; no two have one name; no stamp and no number of a file that a map has is
 /// still to be given; and in all its maps, but for marks, equal stamps at a key mean equal cells.
 pub fn worlds_stay()
     ensures begin { WorldsBegin }
+    ensures tables { TablesStand }
     ensures calls { CallsKeepWorlds }
     ensures histories { WorldsStay }
     ensures order { OrderStays }
