@@ -1,10 +1,10 @@
 -- A table that obeys the rules stands for a world of which all holds that holds of every world.
-use Rattle.std.proofs.Common.{◌≡◌, ◌≢◌, ◌≤◌, ◌<◌, ℕ, ◌+◌, Bool, true, false, cond, ◌&&◌, T, not, Option, Some, None, IfSome, IsSome, is_some, option_map, List, [], ◌∷◌, map as list_map, filter, nat_eq, if◌then◌else◌, refl, sym, ap, subst, ◌∙◌, arith}
+use Rattle.std.proofs.Common.{◌≡◌, ◌≢◌, ◌≤◌, ◌<◌, ℕ, ◌+◌, Bool, true, false, cond, ◌&&◌, T, not, Option, Some, None, IfSome, is_some, option_map, List, [], ◌∷◌, map as list_map, filter, nat_eq, if◌then◌else◌, refl, sym, ap, subst, ◌∙◌, arith}
 use Rattle.std.specs.Prelude.{⊤}
 use Rattle.std.specs.Ordering.{nat_cmp, is_lt}
 use Rattle.std.specs.List.{AllByRecursion}
 use Rattle.std.specs.Option.{option_or}
-use Rattle.std.specs.FinMap.{is_sorted, entries_sorted, find, nat_cmp-IsAntisymmetric}
+use Rattle.std.specs.FinMap.{is_sorted, entries_sorted, nat_cmp-IsAntisymmetric}
 use Rattle.std.specs.FinMap.Entries.{below_all}
 use Rattle.std.specs.FinMap as map
 use Rattle.std.proofs.lemmas.Bool.Decides.{nat_tests}
@@ -18,13 +18,13 @@ use Rattle.ck_model.specs.declared.held.Held.{Held}
 use Rattle.ck_model.specs.declared.held.Held.TheVariants.{Absent, Plain, Extent, Mark}
 use Rattle.ck_model.specs.declared.held.Small.TheVariants.{To, File, Dir}
 use Rattle.ck_model.specs.Cells.{Cells, differs, marked}
-use Rattle.ck_model.specs.Table.{Table, IsTable, column, newer}
+use Rattle.ck_model.specs.Table.{Table, column, newer}
 use Rattle.ck_model.specs.Chain.{first_entry, present, value_at}
-use Rattle.ck_model.specs.Rules.{IsOrderly, KeyBelow, HeldBelow, stamp_in}
+use Rattle.ck_model.specs.Rules.{IsOrderly, HeldBelow, stamp_in}
 use Rattle.ck_model.specs.Values.{Store, cell_on, cells_on}
-use Rattle.ck_model.specs.World.{World, Checkpoint, Mounts, shown_by}
-use Rattle.ck_model.specs.Standing.{values_of, checkpoint_on, live_filesets, checkpoints_on, world_on}
-use Rattle.ck_model.specs.Laws.{IdsRise, StampsBelow, ContentBelow, NumbersBelow, OfOneHistory, Agree, EachTwo, IsWorld, TablesStand}
+use Rattle.ck_model.specs.World.{Checkpoint, shown_by}
+use Rattle.ck_model.specs.Standing.{values_of, checkpoint_on, live_filesets}
+use Rattle.ck_model.specs.Laws.{IdsRise, StampsBelow, ContentBelow, NumbersBelow, OfOneHistory, Agree, EachTwo, TablesStand}
 use Rattle.ck_model.proofs.ValuesOf.{get-values_of, get-cells_on}
 use Rattle.ck_model.proofs.Filesets.{all_found}
 use Rattle.ck_model.proofs.WorldLemmas.{shown_again}
