@@ -1,15 +1,15 @@
 -- Trees in which the size and the blocks of one file change, or its blocks go.
-use Rattle.std.proofs.Common.{◌≡◌, ◌≢◌, ◌⊎◌, inl, inr, ◌<◌, ◌≤◌, ◌*◌, ◌/◌, ◌%◌, ℕ, true, false, Option, Some, None, IsSomeAnd, is_some, Ok, List, [], ◌∷◌, get_or, refl, sym, ap, subst, ◌∙◌, arith}
+use Rattle.std.proofs.Common.{◌≡◌, ◌≢◌, ◌⊎◌, inl, inr, ◌<◌, ◌≤◌, ◌*◌, ◌/◌, ◌%◌, ℕ, true, false, Option, None, IsSomeAnd, is_some, Ok, List, [], ◌∷◌, get_or, sym, ap, subst, ◌∙◌, arith}
 use Rattle.std.specs.Option.{option_and_then}
 use Rattle.std.proofs.lemmas.Bool.{cases_eq}
 use Rattle.std.specs.FinMap as map
 use Rattle.ck_model.specs.declared.key.Key.TheVariants.{Name, Node, Block}
 use Rattle.ck_model.specs.declared.cell.Cell.{Cell}
-use Rattle.ck_model.specs.Cells.{Cells, content_at, bytes_in, is_directory_at, size_in, size_at}
-use Rattle.ck_model.specs.Walk.{walk_from, walk}
+use Rattle.ck_model.specs.Cells.{Cells, bytes_in, is_directory_at, size_in, size_at}
+use Rattle.ck_model.specs.Walk.{walk_from}
 use Rattle.ck_model.specs.Reading.{block_byte, file_byte}
-use Rattle.ck_model.specs.Tree.{HasName, HasNode, child_at, IsReached, IsTree, NodesBelow, IsGrown}
-use Rattle.ck_model.proofs.Walks.{IsEntered, walk_here, here_parts, step_parts, step_from}
+use Rattle.ck_model.specs.Tree.{HasNode, child_at, IsTree, NodesBelow, IsGrown}
+use Rattle.ck_model.proofs.Walks.{walk_here, here_parts, step_parts, step_from}
 use Rattle.ck_model.proofs.Grafts.{IsGraft, grafted, some_and, same_child, same_directory, same_stands}
 
 -- what a node has of blocks afterwards: the same, or none

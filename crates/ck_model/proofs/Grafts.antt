@@ -1,16 +1,16 @@
 -- Trees in which one node comes, goes or gets another name.
-use Rattle.std.proofs.Common.{◌≡◌, ◌≢◌, ◌⊎◌, inl, inr, ℕ, true, false, Option, Some, None, IsSomeAnd, MatchOption, is_some, Result, Ok, Err, List, [], ◌∷◌, ◌++◌, refl, sym, ap, subst, ◌∙◌, ◌<◌, ◌≤◌, ◌*◌}
+use Rattle.std.proofs.Common.{◌≡◌, ◌≢◌, ◌⊎◌, inl, inr, ℕ, true, false, Option, Some, None, IsSomeAnd, MatchOption, is_some, Ok, List, [], ◌∷◌, ◌++◌, refl, sym, ap, subst, ◌∙◌, ◌<◌, ◌≤◌, ◌*◌}
 use Rattle.std.specs.Option.{option_and_then}
 use Rattle.std.proofs.lemmas.Bool.{cases_eq}
 use Rattle.std.specs.FinMap as map
 use Rattle.ck_model.specs.declared.key.Key.{Key}
 use Rattle.ck_model.specs.declared.key.Key.TheVariants.{Name, Node, Block}
 use Rattle.ck_model.specs.declared.cell.Cell.{Cell}
-use Rattle.ck_model.specs.Cells.{Cells, content_at, named_node, is_directory, is_directory_at, size_at}
-use Rattle.ck_model.specs.Walk.{walk_from, walk}
+use Rattle.ck_model.specs.Cells.{Cells, named_node, is_directory, is_directory_at, size_at}
+use Rattle.ck_model.specs.Walk.{walk_from}
 use Rattle.ck_model.specs.Reading.{file_byte}
 use Rattle.ck_model.specs.Tree.{HasName, HasNode, child_at, IsReached, IsTree}
-use Rattle.ck_model.proofs.Walks.{directory_stands, child_stands, IsEntered, walk_here, here_parts, step_parts, step_from, walk_further}
+use Rattle.ck_model.proofs.Walks.{directory_stands, child_stands, walk_here, here_parts, step_parts, step_from, walk_further}
 
 pub some_and : {A : Type 0} (P Q : A → Type 0) (o : Option A) → ((x : A) → o ≡ Some x → P x → Q x) → IsSomeAnd o P → IsSomeAnd o Q
 some_and P Q None step h = h

@@ -7,8 +7,8 @@ use Rattle.ck_model.specs.declared.entry.Entry.{Entry}
 use Rattle.ck_model.specs.Cells.{Cells}
 use Rattle.ck_model.specs.World.{World, Checkpoint, has_id, shown_by}
 use Rattle.ck_model.specs.Streams.{Texts}
-use Rattle.ck_model.specs.History.{Past, CallsBy, begun, created_id, past_after, past_of, IsLegalFrom}
-use Rattle.ck_model.specs.Laws.{IdsRise, IsWorld, frozen_from, FrozenMapsStay, WorldsStay}
+use Rattle.ck_model.specs.History.{Past, CallsBy, begun, created_id, past_after, past_of, IsLegalFrom, IsLegal, state}
+use Rattle.ck_model.specs.Laws.{IdsRise, IsOrdered, frozen_from, frozen, FrozenMapsStay, OrderStays}
 use Rattle.ck_model.proofs.WorldLemmas.{IsLater, Remain-itself, All-remain, All-append, IdsRise-remain, IdsRise-append, shown_again}
 use Rattle.ck_model.proofs.StepLemmas.{Adds}
 use Rattle.ck_model.proofs.HistoryLemmas.{past_after-adds}
@@ -25,24 +25,27 @@ shown_later c d later h =
 shown_new : (w : World) (new : Checkpoint) → shown_by new.kind w.primary ≡ new.cells → IsShown new
 shown_new w new h = ap (shown_by new.kind) (sym h) ∙ shown_again new.kind w.primary ∙ h
 
-pub IsWorld-adds : (w next : World) (new : Option ℕ) → Adds w new next → IsWorld w → IsWorld next
-IsWorld-adds w next None h world = record {
+pub IsOrdered-adds : (w next : World) (new : Option ℕ) → Adds w new next → IsOrdered w → IsOrdered next
+IsOrdered-adds w next None h world = record {
   ids = subst (IdsRise 1 next.checkpoints) (sym h.id) (IdsRise-remain h.remain 1 w.next.id world.ids);
   marks = All-remain IsShown IsShown shown_later h.remain world.marks;
 }
-IsWorld-adds w next (Some id) h world =
+IsOrdered-adds w next (Some id) h world =
     let one = h.1 in record {
       ids = subst (λ cs. IdsRise 1 cs next.next.id) (sym one.checkpoints) (subst (IdsRise 1 (one.left ++ one.new ∷ [])) (sym one.id) (IdsRise-append 1 one.left one.new w.next.id one.own_id (IdsRise-remain one.remain 1 w.next.id world.ids)));
       marks = subst (AllByRecursion IsShown) (sym one.checkpoints) (All-append IsShown one.left one.new (All-remain IsShown IsShown shown_later one.remain world.marks) (shown_new w one.new one.cells));
     }
 
-worlds_stay_from : (texts : Texts) (calls : CallsBy) (past : Past) (history : List Entry) → IsWorld past.world → IsLegalFrom texts calls past history → IsWorld (past_of texts calls past history).world
-worlds_stay_from texts calls past [] world legal = world
-worlds_stay_from texts calls past (entry ∷ entries) world legal =
-    worlds_stay_from texts calls (past_after texts calls past entry) entries (IsWorld-adds past.world _ (created_id entry.reply) (past_after-adds texts calls past entry legal.0) world) legal.1
+order_stays_from : (texts : Texts) (calls : CallsBy) (past : Past) (history : List Entry) → IsOrdered past.world → IsLegalFrom texts calls past history → IsOrdered (past_of texts calls past history).world
+order_stays_from texts calls past [] world legal = world
+order_stays_from texts calls past (entry ∷ entries) world legal =
+    order_stays_from texts calls (past_after texts calls past entry) entries (IsOrdered-adds past.world _ (created_id entry.reply) (past_after-adds texts calls past entry legal.0) world) legal.1
 
-pub worlds_stay_lem : WorldsStay
-worlds_stay_lem texts calls w history world legal = worlds_stay_from texts calls (begun w) history world legal
+pub IsOrdered-empty : (limits : Limits) → IsOrdered (empty_world limits)
+IsOrdered-empty limits = record { ids = le_refl 1; marks = tt }
+
+pub order_stays_lem : OrderStays
+order_stays_lem texts calls w history world legal = order_stays_from texts calls (begun w) history world legal
 
 -- the checkpoint has the map that was frozen under its id
 abbrev IsFrozen : (ℕ → Option Cells) → Checkpoint → Type 0
@@ -63,7 +66,7 @@ frozen_later maps more c d later h =
     subst (λ id. option_map (shown_by d.kind) (option_or (maps id) (more id)) ≡ Some d.cells) (sym later.id) (shown_since (maps c.id) (more c.id) c d later h)
 
 -- the primary map, under the id of a new checkpoint if there is one
-abbrev new_map : Option ℕ → Cells → ℕ → Option Cells
+abbrev pub new_map : Option ℕ → Cells → ℕ → Option Cells
 new_map new primary id = if option_map_or (nat_eq id) new false then Some primary else None
 
 new_map-own : (new id : ℕ) (primary : Cells) → new ≡ id → new_map (Some new) primary id ≡ Some primary
@@ -91,7 +94,7 @@ Keeps-adds maps w next (Some new) h keeps =
           ap (λ o. option_or o (more id)) (keeps.unused id (omega arith)) ∙ new_map-other new id w.primary (omega (arith, h.0));
     }
 
-joined : (o p : Option Cells) (b : Bool) (primary : Cells) → option_or (option_or o (if b then Some primary else None)) p ≡ option_or o (if b then Some primary else p)
+pub joined : (o p : Option Cells) (b : Bool) (primary : Cells) → option_or (option_or o (if b then Some primary else None)) p ≡ option_or o (if b then Some primary else p)
 joined None p true primary = refl
 joined None p false primary = refl
 joined (Some m) p b primary = refl
@@ -154,3 +157,10 @@ found P id (d ∷ cs) c all h =
       | true ↦ λ same is. let here : d ≡ c = cc in subst (λ x. P x × (x.id ≡ id)) here (all.0, eqb-true d.id id same)
       | false ↦ λ _ is. found P id cs c all.1 is
     ] refl h
+
+-- the checkpoint that stands with an id has the map that was frozen under it
+pub standing-frozen : (texts : Texts) (calls : CallsBy) (w : World) (history : List Entry) → IsOrdered w → IsLegal texts calls w history
+    → (id : ℕ) (c : Checkpoint) → find (has_id id) (state texts calls w history).checkpoints ≡ Some c → option_map (shown_by c.kind) (frozen texts calls w history id) ≡ Some c.cells
+standing-frozen texts calls w history world legal id c h =
+    let there = found (IsFrozen (frozen texts calls w history)) id (state texts calls w history).checkpoints c (frozen_maps_stay_lem texts calls w history world legal) h in
+    subst (λ i. option_map (shown_by c.kind) (frozen texts calls w history i) ≡ Some c.cells) there.1 there.0

@@ -21,9 +21,14 @@ pub mod Grafts
 pub mod FileBytes
 pub mod Prunes
 pub mod FileEdits
+pub mod Primaries
+pub mod CellEdits
 pub mod TreeCalls
 pub mod LawsLemmas
 pub mod TreeLaws
+pub mod WorldLaws
+pub mod FrozenLaws
+pub mod TableLaws
 pub mod PathLemmas
 pub mod ValueLaws
 pub mod RowLaws

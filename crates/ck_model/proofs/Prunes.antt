@@ -1,21 +1,21 @@
 -- A tree stays one where a node is made, removed or renamed.
-use Rattle.std.proofs.Common.{◌≡◌, ◌≢◌, ◌⊎◌, inl, inr, ◌<◌, ◌*◌, ℕ, ◌+◌, Bool, true, false, not, Option, Some, None, IsSomeAnd, is_some, List, [], ◌∷◌, nat_eq, if◌then◌else◌, refl, sym, ap, subst, ◌∙◌, arith, ne_eqb, eq-eqb}
+use Rattle.std.proofs.Common.{◌≡◌, ◌≢◌, ◌⊎◌, inl, inr, ◌<◌, ℕ, ◌+◌, Bool, true, false, not, Option, Some, None, IsSomeAnd, is_some, List, nat_eq, if◌then◌else◌, refl, sym, ap, subst, ◌∙◌, arith, ne_eqb, eq-eqb}
 use Rattle.std.specs.Option.{option_and_then}
-use Rattle.std.proofs.lemmas.Bool.{cases_eq, cases_Bool, false_from_ne_true}
+use Rattle.std.proofs.lemmas.Bool.{cases_eq, false_from_ne_true}
 use Rattle.std.specs.FinMap as map
 use Rattle.ck_model.specs.declared.key.Key.{Key}
 use Rattle.ck_model.specs.declared.key.Key.TheVariants.{Name, Node, Block}
 use Rattle.ck_model.specs.declared.cell.Cell.{Cell}
 use Rattle.ck_model.specs.declared.cell.Payload.{Payload}
-use Rattle.ck_model.specs.declared.cell.Payload.TheVariants.{To, File, Dir}
+use Rattle.ck_model.specs.declared.cell.Payload.TheVariants.{To}
 use Rattle.ck_model.specs.Key.{is_of}
 use Rattle.ck_model.specs.Cells.{Cells, named_node, size_in, is_directory_at, size_at}
 use Rattle.ck_model.specs.Changes.{cell_of, with_node, without_file, without_directory, renamed}
-use Rattle.ck_model.specs.Tree.{HasName, HasNode, child_at, IsTree, NodesBelow, IsGrown}
+use Rattle.ck_model.specs.Tree.{HasNode, child_at, IsTree, NodesBelow, IsGrown}
 use Rattle.ck_model.proofs.CellLaws.{get-retain_keys}
 use Rattle.ck_model.proofs.Lookups.{cases_key, get-insert_same, get-insert_other, get-remove_same, get-remove_other}
 use Rattle.ck_model.proofs.Walks.{directory_stands, child_stands}
-use Rattle.ck_model.proofs.Grafts.{NameAfter, stays, goes, comes, IsGraft, IsPlaced, no_child}
+use Rattle.ck_model.proofs.Grafts.{NameAfter, stays, goes, comes, IsGraft, no_child}
 use Rattle.ck_model.proofs.FileBytes.{BlocksAfter, stay, none, grafted_with, grafted-below, same_size}
 
 -- a name that names a node names it once

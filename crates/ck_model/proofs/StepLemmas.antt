@@ -1,5 +1,6 @@
 -- What every step has in common: it answers no fault, and one new checkpoint comes exactly where the reply has its id.
-use Rattle.std.proofs.Common.{◌≡◌, ℕ, ◌-◌, Bool, true, false, Option, List, length, replicate, Result, Ok, Err, MatchOption, refl, sym, ap, subst, if◌then◌else◌}
+use Rattle.std.proofs.Common.{◌≡◌, ◌≢◌, ℕ, ◌-◌, Bool, true, false, Option, List, length, replicate, Result, Ok, Err, MatchOption, refl, sym, ap, subst, if◌then◌else◌}
+use Rattle.std.specs.List.{AllByRecursion}
 use Rattle.ck_model.specs.declared.cell.Payload.TheVariants.{File, Dir}
 use Rattle.ck_model.specs.declared.call.Call.{Call}
 use Rattle.ck_model.specs.declared.call.Call.TheVariants.{Make, Mkdir, Rm, Rmdir, Mv, Write, Fill, Trunc, Read, List as Ls, Stat, Create, Remove, Nodata, Removable, Ckpts, Mount, Umount, Cread, Clist, Restore, Backup, Full, Info, Sync}
@@ -76,9 +77,9 @@ changing-sound w (Err reply) h = told-sound w reply h
 
 created-sound : (w : World) (name : List ℕ) (nodata removable : Bool) (at : ℕ) → IsSound w (created w name nodata removable at)
 created-sound w name nodata removable at =
-    outcome_of-sound w _ (and_then-given (λ id. id ≡ w.next.id) (IsSound w) (new_id w name) _ (new_id-next w name) (λ id next.
+    outcome_of-sound w _ (and_then-given (λ id. (id ≡ w.next.id) × AllByRecursion (λ c. c.name ≢ name) w.checkpoints) (IsSound w) (new_id w name) _ (new_id-next w name) (λ id next.
     with_room-sound w (frozen_world name nodata removable at) 0 (Created id) refl
-    (λ left rest fewer. (next, frozen_world-adds name nodata removable at w left fewer (ap (λ x. x.primary) rest)))))
+    (λ left rest fewer. (next.0, frozen_world-adds name nodata removable at w left fewer (ap (λ x. x.primary) rest) next.1))))
 
 delayed_or_done : (b : Bool) → IsOrdinary (if b then Delayed else Done)
 delayed_or_done true = (refl, refl)

@@ -1,57 +1,42 @@
 -- The calls that change files leave the primary map a tree.
-use Rattle.std.proofs.Common.{◌≡◌, ◌≢◌, ◌≤◌, ℕ, ◌+◌, ◌<◌, ◌&&◌, ◌||◌, Bool, true, false, Some, None, Option, is_some, List, [], ◌∷◌, length, Result, Ok, Err, MatchResult, nat_eq, nat_lt, refl, sym, ap, subst, ◌∙◌, arith, eq-eqb}
-use Rattle.std.specs.Prelude.{⊤}
+use Rattle.std.proofs.Common.{◌≡◌, ◌≤◌, ℕ, ◌+◌, ◌&&◌, ◌||◌, true, false, Some, None, Option, List, [], ◌∷◌, length, nat_eq, nat_lt, refl, sym, ap, subst, ◌∙◌, arith, eq-eqb}
 use Rattle.std.specs.List.{list_any}
-use Rattle.std.specs.Option.{option_and_then}
 use Rattle.std.specs.Ordering.{eq_by_cmp}
 use Rattle.std.specs.FinMap as map
 use Rattle.std.proofs.lemmas.Bool.{false_from_ne_true, or_parts}
 use Rattle.ck_model.specs.declared.key.Key.{Key}
 use Rattle.ck_model.specs.declared.key.Key.TheVariants.{Name, Node}
-use Rattle.ck_model.specs.declared.cell.Cell.{Cell}
 use Rattle.ck_model.specs.declared.cell.Payload.{Payload}
 use Rattle.ck_model.specs.declared.cell.Payload.TheVariants.{To, File, Dir, Bytes}
-use Rattle.ck_model.specs.declared.reply.Reply.{Reply}
-use Rattle.ck_model.specs.declared.reply.Reply.TheVariants.{IsDir, NotEmpty, Root, TooBig, Spent}
+use Rattle.ck_model.specs.declared.checkpoint.Counters.{Counters}
+use Rattle.ck_model.specs.declared.reply.Reply.TheVariants.{IsDir, NotEmpty, Root, Spent}
 use Rattle.ck_model.specs.Key.{key_cmp, is_name_in}
-use Rattle.ck_model.specs.Cells.{Cells, content_at, is_directory, is_directory_at, size_in, size_at}
-use Rattle.ck_model.specs.Refusals.{and_then, refuse_if}
+use Rattle.ck_model.specs.Cells.{Cells, content_at, is_directory, size_in}
 use Rattle.ck_model.specs.Walk.{file_at, directory_at, name_at, new_name_at}
-use Rattle.ck_model.specs.Changes.{with_node, without_file, without_directory, renamed, written, resized}
+use Rattle.ck_model.specs.Changes.{with_node, without_file, without_directory, renamed}
 use Rattle.ck_model.specs.World.{World}
-use Rattle.ck_model.specs.Changing.{is_spent, has_names, with_primary, made, removed, removed_directory, moved, overwritten, truncated}
+use Rattle.ck_model.specs.Changing.{is_spent, has_names, made, removed, removed_directory, moved, overwritten, truncated}
 use Rattle.ck_model.specs.Limits.{file_limit}
-use Rattle.ck_model.specs.Tree.{HasName, HasNode, IsTree, IsGrown}
+use Rattle.ck_model.specs.Tree.{IsGrown}
 use Rattle.ck_model.proofs.CellLaws.{tied-is}
+use Rattle.ck_model.proofs.Primaries.{Leaves, LeavesPrimary, then-given, unless}
 use Rattle.ck_model.proofs.Walks.{file_parts, directory_parts, name_parts, new_name_parts, last_names}
 use Rattle.ck_model.proofs.Prunes.{with_node-grown, without_file-grown, without_directory-grown, renamed-grown}
 use Rattle.ck_model.proofs.FileEdits.{written-grown, resized-grown}
-
--- what there is has a property, if it isn't refused
-abbrev pub OrRefused : {A : Type 0} → (A → Type 0) → Result A Reply → Type 0
-OrRefused P r = MatchResult r P (λ reply. ⊤)
-
-pub then-given : {A B : Type 0} (P : B → Type 0) (r : Result A Reply) (next : A → Result B Reply) → ((x : A) → r ≡ Ok x → OrRefused P (next x)) → OrRefused P (and_then r next)
-then-given P (Ok x) next h = h x refl
-then-given P (Err e) next h = tt
-
-pub unless : {A : Type 0} (P : A → Type 0) (b : Bool) (reply : Reply) (rest : Result A Reply) → (b ≡ false → OrRefused P rest) → OrRefused P (refuse_if b reply rest)
-unless P true reply rest h = tt
-unless P false reply rest h = h refl
 
 -- the primary map is a tree whose nodes have numbers that were given already
 abbrev pub Grows : World → Type 0
 Grows w = IsGrown w.next.number w.primary
 
--- a next world of such a kind, with numbers to give that are no less
-pub record GrowsFrom (w : World) (next : World) : Type 0 where
-  pub grown : Grows next
-  pub more : w.next.number ≤ next.next.number
+-- a map of such a kind, with numbers to give that are no less
+pub record GrowsFrom (w : World) (cells : Cells) (next : Counters) : Type 0 where
+  pub grown : IsGrown next.number cells
+  pub more : w.next.number ≤ next.number
 
-pub made-grows : (w : World) (path : List (List ℕ)) (payload : Payload) → size_in (Some payload) ≡ 0 → Grows w → OrRefused (GrowsFrom w) (made w path payload)
+pub made-grows : (w : World) (path : List (List ℕ)) (payload : Payload) → size_in (Some payload) ≡ 0 → Grows w → LeavesPrimary (GrowsFrom w) (made w path payload)
 made-grows w path payload empty grown =
-    then-given (GrowsFrom w) (new_name_at w.primary path) _ (λ key is.
-    unless (GrowsFrom w) (is_spent w || nat_eq w.next.number 4294967295) Spent _ (λ _.
+    then-given (Leaves (GrowsFrom w)) (new_name_at w.primary path) _ (λ key is.
+    unless (Leaves (GrowsFrom w)) (is_spent w || nat_eq w.next.number 4294967295) Spent _ (λ _.
     let new = new_name_parts w.primary path key is in
     let last = new.last in
     record {
@@ -63,11 +48,11 @@ made-grows w path payload empty grown =
       more = omega arith;
     }))
 
-pub removed-grows : (w : World) (path : List (List ℕ)) → Grows w → OrRefused (GrowsFrom w) (removed w path)
+pub removed-grows : (w : World) (path : List (List ℕ)) → Grows w → LeavesPrimary (GrowsFrom w) (removed w path)
 removed-grows w path grown =
-    then-given (GrowsFrom w) (file_at w.primary path) _ (λ node is_file.
-    then-given (GrowsFrom w) (name_at w.primary IsDir path) _ (λ key is_name.
-    unless (GrowsFrom w) (is_spent w) Spent _ (λ _.
+    then-given (Leaves (GrowsFrom w)) (file_at w.primary path) _ (λ node is_file.
+    then-given (Leaves (GrowsFrom w)) (name_at w.primary IsDir path) _ (λ key is_name.
+    unless (Leaves (GrowsFrom w)) (is_spent w) Spent _ (λ _.
     let file = file_parts w.primary path node is_file in
     let last = name_parts w.primary IsDir path key is_name in
     record {
@@ -96,12 +81,12 @@ none_named d n (k ∷ ks) h =
       | false ↦ λ _. none_named d n ks parts.1
     ] refl
 
-pub removed_directory-grows : (w : World) (path : List (List ℕ)) → Grows w → OrRefused (GrowsFrom w) (removed_directory w path)
+pub removed_directory-grows : (w : World) (path : List (List ℕ)) → Grows w → LeavesPrimary (GrowsFrom w) (removed_directory w path)
 removed_directory-grows w path grown =
-    then-given (GrowsFrom w) (name_at w.primary Root path) _ (λ key is_name.
-    then-given (GrowsFrom w) (directory_at w.primary path) _ (λ node is_directory_there.
-    unless (GrowsFrom w) (has_names w.primary node) NotEmpty _ (λ bare.
-    unless (GrowsFrom w) (is_spent w) Spent _ (λ _.
+    then-given (Leaves (GrowsFrom w)) (name_at w.primary Root path) _ (λ key is_name.
+    then-given (Leaves (GrowsFrom w)) (directory_at w.primary path) _ (λ node is_directory_there.
+    unless (Leaves (GrowsFrom w)) (has_names w.primary node) NotEmpty _ (λ bare.
+    unless (Leaves (GrowsFrom w)) (is_spent w) Spent _ (λ _.
     let directory = directory_parts w.primary path node is_directory_there in
     let last = name_parts w.primary Root path key is_name in
     record {
@@ -114,12 +99,12 @@ removed_directory-grows w path grown =
       more = omega arith;
     }))))
 
-pub moved-grows : (w : World) (path new_path : List (List ℕ)) → Grows w → OrRefused (GrowsFrom w) (moved w path new_path)
+pub moved-grows : (w : World) (path new_path : List (List ℕ)) → Grows w → LeavesPrimary (GrowsFrom w) (moved w path new_path)
 moved-grows w path new_path grown =
-    then-given (GrowsFrom w) (file_at w.primary path) _ (λ node is_file.
-    then-given (GrowsFrom w) (new_name_at w.primary new_path) _ (λ to is_new.
-    unless (GrowsFrom w) (is_spent w) Spent _ (λ _.
-    then-given (GrowsFrom w) (name_at w.primary IsDir path) _ (λ from is_name.
+    then-given (Leaves (GrowsFrom w)) (file_at w.primary path) _ (λ node is_file.
+    then-given (Leaves (GrowsFrom w)) (new_name_at w.primary new_path) _ (λ to is_new.
+    unless (Leaves (GrowsFrom w)) (is_spent w) Spent _ (λ _.
+    then-given (Leaves (GrowsFrom w)) (name_at w.primary IsDir path) _ (λ from is_name.
     let file = file_parts w.primary path node is_file in
     let new = new_name_parts w.primary new_path to is_new in
     let last = name_parts w.primary IsDir path from is_name in
@@ -133,21 +118,21 @@ moved-grows w path new_path grown =
       more = omega arith;
     }))))
 
-pub overwritten-grows : (w : World) (path : List (List ℕ)) (at : ℕ) (bytes : List ℕ) → Grows w → OrRefused (GrowsFrom w) (overwritten w path at bytes)
+pub overwritten-grows : (w : World) (path : List (List ℕ)) (at : ℕ) (bytes : List ℕ) → Grows w → LeavesPrimary (GrowsFrom w) (overwritten w path at bytes)
 overwritten-grows w path at bytes grown =
-    then-given (GrowsFrom w) (file_at w.primary path) _ (λ node is_file.
-    unless (GrowsFrom w) (nat_lt 0 (length bytes) && nat_lt file_limit (at + length bytes)) _ _ (λ _.
-    unless (GrowsFrom w) (is_spent w) Spent _ (λ _.
+    then-given (Leaves (GrowsFrom w)) (file_at w.primary path) _ (λ node is_file.
+    unless (Leaves (GrowsFrom w)) (nat_lt 0 (length bytes) && nat_lt file_limit (at + length bytes)) _ _ (λ _.
+    unless (Leaves (GrowsFrom w)) (is_spent w) Spent _ (λ _.
     let file = file_parts w.primary path node is_file in
     record {
       grown = written-grown w.next.number w.primary grown w.next.stamp node at bytes file.leads.stands file.file;
       more = omega arith;
     })))
 
-pub truncated-grows : (w : World) (path : List (List ℕ)) (size : ℕ) → Grows w → OrRefused (GrowsFrom w) (truncated w path size)
+pub truncated-grows : (w : World) (path : List (List ℕ)) (size : ℕ) → Grows w → LeavesPrimary (GrowsFrom w) (truncated w path size)
 truncated-grows w path size grown =
-    then-given (GrowsFrom w) (file_at w.primary path) _ (λ node is_file.
-    unless (GrowsFrom w) (is_spent w) Spent _ (λ _.
+    then-given (Leaves (GrowsFrom w)) (file_at w.primary path) _ (λ node is_file.
+    unless (Leaves (GrowsFrom w)) (is_spent w) Spent _ (λ _.
     let file = file_parts w.primary path node is_file in
     record {
       grown = resized-grown w.next.number w.primary grown w.next.stamp node size file.leads.stands file.file;

@@ -1,5 +1,5 @@
 -- Walks along the names of a path, step by step.
-use Rattle.std.proofs.Common.{◌≡◌, ◌≢◌, ℕ, suc, ◌-◌, ◌<◌, true, false, Option, Some, None, is_some, Result, Ok, Err, List, [], ◌∷◌, ◌++◌, length, length-drop, take, drop, drop-cons, if◌then◌else◌, refl, sym, ap, subst, ◌∙◌, arith}
+use Rattle.std.proofs.Common.{◌≡◌, ℕ, suc, ◌-◌, ◌<◌, true, false, Some, None, is_some, Result, Ok, Err, List, [], ◌∷◌, ◌++◌, length, length-drop, take, drop, drop-cons, if◌then◌else◌, refl, sym, ap, subst, ◌∙◌, arith}
 use Rattle.std.specs.List.{slice_index_or}
 use Rattle.std.specs.Option.{ok_or, option_and_then}
 use Rattle.std.specs.FinMap as map
@@ -7,11 +7,10 @@ use Rattle.std.proofs.lemmas.List.{take-append-drop, nil_from_length}
 use Rattle.ck_model.specs.declared.key.Key.{Key}
 use Rattle.ck_model.specs.declared.key.Key.TheVariants.{Name, Node}
 use Rattle.ck_model.specs.declared.cell.Cell.{Cell}
-use Rattle.ck_model.specs.declared.path.WalkFault.{WalkFault}
 use Rattle.ck_model.specs.declared.path.WalkFault.TheVariants as fault
 use Rattle.ck_model.specs.declared.reply.Reply.{Reply}
 use Rattle.ck_model.specs.declared.reply.Reply.TheVariants.{IsDir, NotDir, Exists}
-use Rattle.ck_model.specs.Cells.{Cells, content_at, named_node, is_directory, is_directory_at}
+use Rattle.ck_model.specs.Cells.{Cells, named_node, is_directory, is_directory_at}
 use Rattle.ck_model.specs.Refusals.{and_then, refuse_if, or_refused}
 use Rattle.ck_model.specs.Walk.{entered, walk_from, walk, node_at, file_at, directory_at, name_at, new_name_at}
 use Rattle.ck_model.specs.Tree.{HasName, HasNode, child_at}

@@ -1,5 +1,5 @@
 -- What becomes of a world's checkpoints: some leave, and the others stay as they are or become nodata.
-use Rattle.std.proofs.Common.{◌≡◌, ◌≤◌, ℕ, zero, suc, ◌+◌, Bool, true, false, cond, List, [], ◌∷◌, ◌++◌, map as list_map, filter, take, refl, sym, subst, arith}
+use Rattle.std.proofs.Common.{◌≡◌, ◌≢◌, ◌≤◌, ℕ, zero, suc, ◌+◌, Bool, true, false, cond, List, [], ◌∷◌, ◌++◌, map as list_map, filter, take, refl, sym, subst, arith}
 use Rattle.std.specs.List.{AllByRecursion}
 use Rattle.ck_model.specs.declared.checkpoint.Kind.{Kind}
 use Rattle.ck_model.specs.declared.checkpoint.Kind.TheVariants.{Keeping, Nodata}
@@ -19,10 +19,12 @@ marked-shown_by Nodata cells = marked_again cells
 -- a checkpoint and the same one later: it shows the same map
 pub record IsLater (before : Checkpoint) (after : Checkpoint) : Type 0 where
   pub id : after.id ≡ before.id
+  pub name : after.name ≡ before.name
+  pub keeps : after.kind ≡ Keeping → (before.kind ≡ Keeping) × (after.cells ≡ before.cells)
   pub shows : (m : Cells) → shown_by before.kind m ≡ before.cells → shown_by after.kind m ≡ after.cells
 
 pub IsLater-itself : (checkpoint : Checkpoint) → IsLater checkpoint checkpoint
-IsLater-itself checkpoint = record { id = refl; shows = λ m h. h }
+IsLater-itself checkpoint = record { id = refl; name = refl; keeps = λ keeps. (keeps, refl); shows = λ m h. h }
 
 -- checkpoints, and those of them that remain
 pub data Remain : List Checkpoint → List Checkpoint → Type 0 where
@@ -91,6 +93,8 @@ pub record AddsOne (w : World) (next : World) : Type 0 where
   pub checkpoints : next.checkpoints ≡ left ++ new ∷ []
   pub own_id : new.id ≡ w.next.id
   pub cells : shown_by new.kind w.primary ≡ new.cells
+  pub primary : next.primary ≡ w.primary
+  pub new_name : AllByRecursion (λ c. c.name ≢ new.name) w.checkpoints
   pub id : next.next.id ≡ w.next.id + 1
 
 pub AddsNone-itself : (w : World) → AddsNone w w

@@ -28,7 +28,7 @@ pub use child::{Child, Children};
 pub use entry::Entry;
 pub use held::{Held, Small};
 pub use key::Key;
-pub use laws::{changes_apply, frozen_maps_stay, trees_stay, worlds_stay};
+pub use laws::{changes_apply, frozen_maps_agree, frozen_maps_stay, trees_stay, worlds_stay};
 pub use limit::{BLOCK, CHECKPOINT_LIMIT, FILE_LIMIT, SCRIPT_LIMIT};
 pub use memory::NoMemory;
 pub use meta::Meta;
