@@ -14,5 +14,4 @@ pub mod NewBlocks
 pub mod ChangingLemmas
 pub mod PlacedLemmas
 pub mod PlacedLaws
-pub mod OrdinaryLaws
 pub mod NamesLemmas

@@ -4,10 +4,9 @@ use Rattle.std.specs.Option.{option_or, unwrap_or}
 use Rattle.std.specs.FinMap.{find, is_sorted, entries_sorted}
 use Rattle.std.specs.FinMap as map
 use Rattle.ck_model.specs.declared.key.Key.{Key}
-use Rattle.ck_model.specs.Cells.{Cells, Content}
+use Rattle.ck_model.specs.Cells.{Cells, Content, OfOneHistory}
 use Rattle.ck_model.specs.Key.{key_cmp, key_cmp_total}
 use Rattle.ck_model.specs.Streams.{image, set_all, applied, changed as map_changes}
-use Rattle.ck_model.specs.Laws.{OfOneHistory}
 use Rattle.ck_model.proofs.CellLaws.{find-append_or, entries_are}
 use Rattle.ck_model.proofs.StreamLaws.{get-set_all, applied-changed}
 use Rattle.ck_stream.specs.declared.item.Item.{Item}

@@ -3,10 +3,9 @@ use Rattle.std.specs.Prelude.{◌≡◌, List, Option}
 use Rattle.std.specs.Option.{option_or}
 use Rattle.std.specs.FinMap.{find}
 use Rattle.ck_model.specs.declared.key.Key.{Key}
-use Rattle.ck_model.specs.Cells.{Cells, Content}
+use Rattle.ck_model.specs.Cells.{Cells, Content, OfOneHistory}
 use Rattle.ck_model.specs.Key.{key_cmp}
 use Rattle.ck_model.specs.Streams.{image, applied, changed as map_changes}
-use Rattle.ck_model.specs.Laws.{OfOneHistory}
 use Rattle.ck_stream.specs.declared.stream.Full.{Full}
 use Rattle.ck_stream.specs.declared.stream.Changed.{Changed}
 use Rattle.ck_stream.specs.declared.stream.Stream.TheVariants as stream

@@ -1,5 +1,5 @@
 -- Small facts on options and tests.
-use Rattle.std.proofs.Common.{◌≡◌, Bool, true, false, ◌&&◌, ◌||◌, not, Option, Some, None, IsSome, refl, T}
+use Rattle.std.proofs.Common.{◌≡◌, Bool, true, false, ◌&&◌, ◌||◌, not, Option, Some, None, IsSome, refl, T, Result, Ok, Err, IfOk}
 use mathlib.Core.Bool.{false≢true}
 
 pub some_same : {X : Type 0} (x y : X) → ◌≡◌ {A = Option X} (Some x) (Some y) → x ≡ y
@@ -54,3 +54,8 @@ both_of false b g h = g
 pub true_or_false : (b : Bool) → (b ≡ true → ⊥) → b ≡ false
 true_or_false true h = absurd (h refl)
 true_or_false false h = refl
+
+-- what holds of each good answer, for what follows from it
+pub if_ok_map : {A E : Type 0} (P Q : A → Type 0) (r : Result A E) → ((x : A) → P x → Q x) → IfOk r P → IfOk r Q
+if_ok_map P Q (Ok x) f h = f x h
+if_ok_map P Q (Err e) f h = tt

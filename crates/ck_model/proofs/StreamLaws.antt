@@ -7,9 +7,8 @@ use Rattle.std.specs.FinMap as map
 use Rattle.ck_model.specs.declared.key.Key.{Key}
 use Rattle.ck_model.specs.declared.cell.Cell.{Cell}
 use Rattle.ck_model.specs.Key.{key_cmp, key_cmp_total}
-use Rattle.ck_model.specs.Cells.{Cells, Content, marked, differs, differences}
+use Rattle.ck_model.specs.Cells.{Cells, Content, marked, differs, differences, OfOneHistory}
 use Rattle.ck_model.specs.Streams.{image, changed, set_to, set_all, applied}
-use Rattle.ck_model.specs.Laws.{OfOneHistory}
 use Rattle.ck_model.proofs.CellLaws.{find-values, is_sorted-values, entries_are, get-differences, differences-marked}
 
 abbrev content_of : Cell → Content

@@ -1,5 +1,5 @@
 -- Maps from keys to cells: what a key holds, what is put and removed, and how two maps differ.
-use Rattle.std.specs.Prelude.{ℕ, Bool, true, false, not, List, [], ◌∷◌, ◌++◌, Option, Some, None, nat_eq, if◌then◌else◌, map as list_map}
+use Rattle.std.specs.Prelude.{◌≡◌, ℕ, Bool, true, false, not, List, [], ◌∷◌, ◌++◌, Option, Some, None, nat_eq, if◌then◌else◌, map as list_map}
 use Rattle.std.specs.Option.{option_and_then}
 use Rattle.std.specs.FinMap as map
 use Rattle.ck_model.specs.declared.key.Key.{Key}
@@ -81,6 +81,10 @@ differs None None = false
 differs None (Some y) = true
 differs (Some x) None = true
 differs (Some x) (Some y) = not (nat_eq x.stamp y.stamp)
+
+-- in maps of one history, equal stamps at a key mean that it holds the same
+abbrev pub OfOneHistory : Cells → Cells → Type 0
+OfOneHistory a b = (key : Key) → differs (map.get a key) (map.get b key) ≡ false → map.get a key ≡ map.get b key
 
 -- from a key to its new cell, or to None where it has none any more
 abbrev pub Differences : Type 0

@@ -7,7 +7,6 @@ pub mod Held
 pub mod Cells
 pub mod Walk
 pub mod Reading
-pub mod Tree
 pub mod Changes
 pub mod World
 pub mod Space
@@ -22,8 +21,6 @@ pub mod Freezing
 pub mod Reporting
 pub mod Step
 pub mod History
-pub mod Laws
-pub mod Ordinary
 pub mod Rows
 pub mod Placed
 pub mod Limits

@@ -16,6 +16,10 @@ use Rattle.ck_model.specs.Cells.{Cells}
 abbrev pub Store : Type 0
 Store = ℕ → List ℕ
 
+-- one without a byte, for what looks at no block's bytes
+abbrev pub no_store : Store
+no_store = λ block. []
+
 -- no absent stands in such a map
 abbrev pub Values : Type 0
 Values = map.FinMap key_cmp Held

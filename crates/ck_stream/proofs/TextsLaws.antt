@@ -2,9 +2,8 @@
 use Rattle.std.proofs.Common.{◌≡◌, ℕ, List, [], ◌∷◌, map as list_map, refl, sym, ap, ◌∙◌}
 use Rattle.std.specs.List.{AllByRecursion}
 use Rattle.ck_model.specs.declared.key.Key.{Key}
-use Rattle.ck_model.specs.Cells.{Cells, Content}
+use Rattle.ck_model.specs.Cells.{Cells, Content, OfOneHistory}
 use Rattle.ck_model.specs.Streams.{image, applied, changed as map_changes}
-use Rattle.ck_model.specs.Laws.{OfOneHistory}
 use Rattle.ck_model.proofs.StreamLaws.{applied-changed}
 use Rattle.ck_stream.specs.declared.item.Item.{Item}
 use Rattle.ck_stream.specs.declared.item.Item.TheVariants.{Put, Removed}

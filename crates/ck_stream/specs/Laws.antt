@@ -1,8 +1,7 @@
 -- What follows of the spelling alone.
 use Rattle.std.specs.Prelude.{◌≡◌, ℕ, List, [], ◌++◌}
-use Rattle.ck_model.specs.Cells.{Cells}
+use Rattle.ck_model.specs.Cells.{Cells, OfOneHistory}
 use Rattle.ck_model.specs.Streams.{image, applied, changed as map_changes}
-use Rattle.ck_model.specs.Laws.{OfOneHistory}
 use Rattle.ck_stream.specs.declared.stream.Full.{Full}
 use Rattle.ck_stream.specs.declared.stream.Changed.{Changed}
 use Rattle.ck_stream.specs.declared.stream.Stream.{Stream}

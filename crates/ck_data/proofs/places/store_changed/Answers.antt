@@ -14,7 +14,7 @@ use Rattle.ck_model.specs.Table.{Table}
 use Rattle.ck_model.proofs.ValueLaws.{get-values_of}
 use Rattle.ck_tree.specs.Plan.{block_by}
 use Rattle.ck_data.specs.Device.{store_on}
-use Rattle.ck_files.proofs.OrdinaryLaws.{if_ok_map}
+use Rattle.ck_model.proofs.CaseLaws.{if_ok_map}
 use Rattle.ck_data.proofs.PieceLemmas.{bytes-block, fill-block, same-block, trunc-block}
 use Rattle.ck_data.specs.Piece.{IsPiece}
 use Rattle.ck_files.proofs.StandsLaws.{value_below}

@@ -7,7 +7,7 @@ use Rattle.ck_model.specs.Step.{answered}
 use Rattle.ck_model.specs.Standing.{world_on}
 use Rattle.ck_data.specs.Device.{store_on}
 use Rattle.ck_files.specs.Room.{answered_with}
-use Rattle.ck_files.proofs.OrdinaryLaws.{if_ok_map}
+use Rattle.ck_model.proofs.CaseLaws.{if_ok_map}
 use Rattle.ck_data.proofs.reads.cread.Goals as goal
 
 pub returns-in-Ok-clause-reply : goal.returns-in-Ok-clause-reply

@@ -1,7 +1,7 @@
 use Rattle.std.proofs.Common.{IsTrue, sym, subst, ◌∙◌}
 use Rattle.ck_data.specs.Device.{store_on}
 use Rattle.ck_data.specs.Reads.{bytes_of}
-use Rattle.ck_files.proofs.OrdinaryLaws.{if_ok_map}
+use Rattle.ck_model.proofs.CaseLaws.{if_ok_map}
 use Rattle.ck_data.proofs.PatchLemmas.{patched_kept}
 use Rattle.ck_data.proofs.store.store_block.Goals as goal
 

@@ -4,7 +4,7 @@ use Rattle.ck_model.specs.Refusals.{and_then}
 use Rattle.ck_model.specs.Reporting.{names_listed}
 use Rattle.ck_model.specs.Standing.{world_on}
 use Rattle.ck_model.specs.Step.{answered}
-use Rattle.ck_files.proofs.OrdinaryLaws.{if_ok_map}
+use Rattle.ck_model.proofs.CaseLaws.{if_ok_map}
 use Rattle.ck_files.proofs.names.cls.Goals as goal
 
 pub returns-in-Ok-clause-reply : goal.returns-in-Ok-clause-reply

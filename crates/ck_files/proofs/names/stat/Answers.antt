@@ -7,7 +7,7 @@ use Rattle.ck_model.specs.Step.{answered}
 use Rattle.ck_model.specs.Values.{cells_on}
 use Rattle.ck_model.specs.Walk.{node_at}
 use Rattle.ck_files.specs.Room.{answered_with}
-use Rattle.ck_files.proofs.OrdinaryLaws.{if_ok_map}
+use Rattle.ck_model.proofs.CaseLaws.{if_ok_map}
 use Rattle.ck_tree.proofs.StandingLaws.{stands_on as stands}
 use Rattle.ck_files.proofs.names.stat.Goals as goal
 

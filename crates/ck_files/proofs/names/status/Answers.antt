@@ -3,9 +3,8 @@ use Rattle.ck_model.specs.declared.reply.Reply.TheVariants.{StatDir, StatFile}
 use Rattle.ck_model.specs.Cells.{is_directory_at, size_at}
 use Rattle.ck_model.specs.Reading.{children}
 use Rattle.ck_model.specs.Standing.{values_of}
-use Rattle.ck_model.specs.Values.{cells_on}
+use Rattle.ck_model.specs.Values.{cells_on, no_store}
 use Rattle.ck_files.proofs.NamesLemmas.{names-few}
-use Rattle.ck_files.proofs.OrdinaryLaws.{no_store}
 use Rattle.ck_tree.proofs.StandingLaws.{stands_on as stands}
 use Rattle.ck_files.proofs.names.status.Goals as goal
 

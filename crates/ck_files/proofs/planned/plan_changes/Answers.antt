@@ -3,7 +3,7 @@ use Rattle.ck_model.specs.declared.change.Change.{Change}
 use Rattle.ck_push.specs.Growth.{gains, losses, write_count}
 use Rattle.ck_files.specs.Planned.{IsPlanned}
 use Rattle.ck_files.specs.Room.{has_room}
-use Rattle.ck_files.proofs.OrdinaryLaws.{if_ok_map}
+use Rattle.ck_model.proofs.CaseLaws.{if_ok_map}
 use Rattle.ck_files.proofs.PlacedLemmas.{few_of_plan, lack-ordinary, planned-full, planned-refused, ordinary_refusal}
 use Rattle.ck_files.proofs.planned.plan_changes.Goals as goal
 

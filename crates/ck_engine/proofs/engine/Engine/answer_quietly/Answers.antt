@@ -7,7 +7,8 @@ use Rattle.ck_model.specs.Standing.{world_on}
 use Rattle.ck_model.specs.Step.{step}
 use Rattle.ck_files.specs.Room.{answered_with}
 use Rattle.ck_engine.specs.Engine.{table_of, mounts_of}
-use Rattle.ck_files.proofs.OrdinaryLaws.{if_ok_map, no_store}
+use Rattle.ck_model.proofs.CaseLaws.{if_ok_map}
+use Rattle.ck_model.specs.Values.{no_store}
 use Rattle.ck_engine.proofs.engine.Engine.answer_quietly.Goals as goal
 
 pub returns-in-List-clause-ok : goal.returns-in-List-clause-ok

@@ -6,7 +6,7 @@ use Rattle.ck_data.specs.Device.{store_on}
 use Rattle.ck_files.specs.Room.{answered_with}
 use Rattle.ck_data.specs.declared.range.DataArea.{DataArea}
 use Rattle.ck_engine.specs.Engine.{table_of, mounts_of}
-use Rattle.ck_files.proofs.OrdinaryLaws.{if_ok_map}
+use Rattle.ck_model.proofs.CaseLaws.{if_ok_map}
 use Rattle.ck_engine.proofs.AttemptLemmas.{reads-attempt, reads-goes, goes_all}
 use Rattle.ck_engine.proofs.engine.Engine.cread.Goals as goal
 

@@ -1,5 +1,5 @@
 use Rattle.ck_engine.specs.Engine.{disk_of}
-use Rattle.ck_files.proofs.OrdinaryLaws.{if_ok_map}
+use Rattle.ck_model.proofs.CaseLaws.{if_ok_map}
 use Rattle.ck_engine.proofs.OpenLemmas.{opened_after, fault_after, if_err_map}
 use Rattle.ck_engine.proofs.engine.Engine.open.Goals as goal
 
