@@ -149,11 +149,3 @@ frozen_maps_stay_lem texts calls w history world legal =
     maps_stay_from texts calls (begun w) history (own_maps w.checkpoints)
     (record { all = own_maps-frozen 1 w.checkpoints w.next.id world.ids world.marks; unused = λ id above. own_maps-unused 1 w.checkpoints w.next.id id world.ids above })
     legal
-
-found : (P : Checkpoint → Type 0) (id : ℕ) (cs : List Checkpoint) (c : Checkpoint) → AllByRecursion P cs → find (has_id id) cs ≡ Some c → P c × (c.id ≡ id)
-found P id [] c all h = absurd (none-some c h)
-found P id (d ∷ cs) c all h =
-    elim (has_id id d) as (λ b. has_id id d ≡ b → (if b then Some d else find (has_id id) cs) ≡ Some c → P c × (c.id ≡ id)) [
-      | true ↦ λ same is. let here : d ≡ c = cc in subst (λ x. P x × (x.id ≡ id)) here (all.0, eqb-true d.id id same)
-      | false ↦ λ _ is. found P id cs c all.1 is
-    ] refl h
