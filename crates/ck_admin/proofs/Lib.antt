@@ -3,4 +3,4 @@ pub mod CrashLemmas
 pub mod PlayedLemmas
 pub mod BuiltLemmas
 pub mod TopLemmas
-pub mod OpeningLemmas
+pub mod VolumeLemmas

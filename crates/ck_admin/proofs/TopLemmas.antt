@@ -10,14 +10,14 @@ use Rattle.ck_model.specs.History.{CallsBy, call_at, is_write_fault}
 use Rattle.ck_report.specs.declared.status.Status.{Status}
 use Rattle.ck_report.specs.declared.status.Status.TheVariants.{Done, Refused, Usage, BadScript, NotOpened, DeviceFault, SourceFault, SinkFault, NoMemory}
 use Rattle.ck_script.specs.Numbered.{calls_in}
-use Rattle.ck_script.specs.Reading.{Parsed, read_script}
+use Rattle.ck_script.specs.Parsed.{Parsed, read_script}
 use Rattle.ck_io.specs.Clock.{ClockMeaning}
 use Rattle.ck_io.specs.Sink.{SinkMeaning}
 use Rattle.ck_io.specs.Source.{SourceMeaning}
 use Rattle.ck_volume.specs.declared.commit.CommitAnswer.{CommitAnswer}
 use Rattle.ck_volume.specs.declared.commit.CommitAnswer.TheVariants as answer
 use Rattle.ck_engine.specs.Recovery.{Recovers}
-use Rattle.ck_admin.specs.Ending.{IsPrinted, IsUnplayed, EndsOn}
+use Rattle.ck_admin.specs.Ends.{IsPrinted, IsUnplayed, EndsOn}
 use Rattle.ck_admin.specs.Crash.{synced_count, RecoversCut, CutFrom, LeavesCuts, LeavesSince, found_broken, IsPlayed}
 use Rattle.ck_volume.specs.Causes.{HasCauses, replies_of}
 use Rattle.ck_admin.specs.Play.{IsPlay, lost_a_write}

@@ -3,4 +3,4 @@ pub mod Refusals
 pub mod Statuses
 pub mod Crash
 pub mod Top
-pub mod Ending
+pub mod Ends

@@ -11,7 +11,7 @@ use Rattle.ck_io.specs.Bytes.{GainsPrefix}
 use Rattle.ck_io.specs.Faults as io
 use Rattle.ck_io.specs.Sink.{SinkMeaning}
 use Rattle.ck_io.specs.Source.{SourceMeaning}
-use Rattle.ck_script.specs.Reading.{read_script}
+use Rattle.ck_script.specs.Parsed.{read_script}
 use Rattle.ck_volume.specs.declared.commit.CommitAnswer.{CommitAnswer}
 use Rattle.ck_volume.specs.declared.commit.CommitAnswer.TheVariants as answer
 use Rattle.ck_engine.specs.Recovery.{Recovery, NotVolume, BadFormat, Damaged, Opens, Finds}

@@ -16,7 +16,7 @@ use Rattle.ck_io.specs.Faults as io
 use Rattle.ck_io.specs.Sink.{SinkMeaning}
 use Rattle.ck_io.specs.Source.{SourceMeaning}
 use Rattle.ck_script.specs.Numbered.{calls_in}
-use Rattle.ck_script.specs.Reading.{Parsed, read_script}
+use Rattle.ck_script.specs.Parsed.{Parsed, read_script}
 use Rattle.ck_engine.specs.Exact.{IsExact}
 use Rattle.ck_engine.specs.Formatted.{new_world}
 use Rattle.ck_engine.specs.Recovery.{Recovers}

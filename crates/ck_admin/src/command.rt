@@ -11,14 +11,14 @@ ghost use Rattle.ck_volume.specs.Volume.{disk_of, origin_of, told_of, spoilt_of,
 ghost use Rattle.ck_engine.specs.Recovery.{Recovers};
 ghost use Rattle.ck_words.specs.declared.command.Command.TheVariants.{Play, Mkfs};
 ghost use Rattle.ck_words.specs.Command.{command_of};
-ghost use Rattle.ck_admin.specs.Ending.{EndsOn};
+ghost use Rattle.ck_admin.specs.Ends.{EndsOn};
 ghost use Rattle.ck_admin.specs.Play.{IsLater};
 ghost use Rattle.ck_admin.specs.Statuses.{play_status};
 ghost use Rattle.ck_admin.specs.Top.{is_usage, is_play, leaves_device, IsUntouched, EndsPlay, EndsMkfs};
 
 use crate::mkfs::mkfs;
-use crate::opening::open;
-use crate::playing::play_and_commit;
+use crate::volume::open;
+use crate::session::play_and_commit;
 use crate::print::print;
 use crate::read::read;
 use ck_disk::Disk;

@@ -3,11 +3,11 @@
 
 mod command;
 mod mkfs;
-mod opening;
-mod playing;
 mod print;
 mod read;
 mod refusal;
+mod session;
+mod volume;
 
 pub use command::{Ended, top};
-pub use playing::play;
+pub use session::play;

@@ -4,7 +4,7 @@ ghost use Rattle.ck_admin.specs.Play.{IsLater};
 ghost use Rattle.ck_admin.specs.Top.{EndsMkfs};
 
 use crate::command::Ended;
-use crate::opening::not_opened;
+use crate::volume::not_opened;
 use crate::refusal::bad_size;
 use ck_disk::Disk;
 use ck_engine::FormatFault;

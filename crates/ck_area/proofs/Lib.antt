@@ -9,8 +9,8 @@ pub mod NewTableLaws
 pub mod NewWorldLaws
 pub mod DamagedLemmas
 pub mod SlotLemmas
-pub mod ReadingLemmas
-pub mod WritingLemmas
+pub mod BlockLemmas
+pub mod TextLemmas
 pub mod OrderLemmas
 pub mod FirstLemmas
 pub mod KnownLemmas

@@ -15,7 +15,7 @@ use Rattle.ck_model.specs.World.{root_cells, empty_world}
 use Rattle.ck_model.specs.Table.{column}
 use Rattle.ck_model.specs.Chain.{present}
 use Rattle.ck_model.specs.Values.{Store, cell_on, cells_on}
-use Rattle.ck_model.specs.Standing.{values_of, checkpoint_on, world_on}
+use Rattle.ck_model.specs.TableWorld.{values_of, checkpoint_on, world_on}
 use Rattle.ck_model.specs.Limits.{checkpoint_limit}
 use Rattle.ck_model.proofs.ValueLaws.{get-values_of, get-cells_on}
 use Rattle.ck_area.specs.Area.{new_table}

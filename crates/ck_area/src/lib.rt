@@ -2,6 +2,7 @@
 #![tactic(auto)]
 
 mod alone;
+mod block;
 mod broken;
 mod crowd;
 mod forms;
@@ -9,13 +10,12 @@ mod holder;
 mod known;
 mod parts;
 mod pushes;
-mod reading;
 mod repeated;
 mod repeats;
+mod text;
 mod whole;
-mod writing;
 
+pub use block::{read_block, slot_in};
 pub use broken::first_damage;
 pub use forms::is_unbuilt;
-pub use reading::{read_block, slot_in};
-pub use writing::spell_block;
+pub use text::spell_block;

@@ -8,7 +8,7 @@ use Rattle.ck_model.specs.declared.key.Key.{Key}
 use Rattle.ck_model.specs.declared.held.Held.{Held}
 use Rattle.ck_model.specs.Key.{entry_cmp, entry_cmp_total}
 use Rattle.ck_model.specs.Table.{Table, Entries, column, with_entry, record_count}
-use Rattle.ck_chain.specs.Naming.{one_of}
+use Rattle.ck_chain.specs.Named.{one_of}
 
 -- a table with an entry isn't empty
 pub some_entry : (entries : Entries) (entry : ℕ × Key) → IsSome (map.get entries entry) → 1 ≤ map.len entries

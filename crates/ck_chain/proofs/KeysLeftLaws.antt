@@ -6,10 +6,10 @@ use mathlib.Core.Bool.{false≢true}
 use Rattle.ck_model.specs.declared.key.Key.{Key}
 use Rattle.ck_model.specs.Key.{key_cmp}
 use Rattle.ck_model.specs.Table.{Table}
-use Rattle.ck_model.specs.Standing.{keys_of, is_among}
+use Rattle.ck_model.specs.TableWorld.{keys_of, is_among}
 use Rattle.ck_model.proofs.CellLaws.{tied-is}
 use Rattle.ck_model.proofs.ValueLaws.{not_among}
-use Rattle.ck_chain.specs.Following.{IsHeld, is_behind, keys_left}
+use Rattle.ck_chain.specs.Order.{IsHeld, is_behind, keys_left}
 use Rattle.ck_chain.proofs.KeyOrderLaws.{behind-itself, behind-trans}
 
 fewer : (a b : Key) → is_behind a b ≡ true → (ks : List Key) → length (filter (is_behind b) ks) ≤ length (filter (is_behind a) ks)

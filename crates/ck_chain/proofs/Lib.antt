@@ -9,5 +9,5 @@ pub mod PushedLaws
 pub mod NameLaws
 pub mod SameValues
 pub mod KeyOrderLaws
-pub mod FollowingLaws
+pub mod OrderLaws
 pub mod KeysLeftLaws

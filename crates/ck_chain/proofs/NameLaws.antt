@@ -6,7 +6,7 @@ use Rattle.ck_model.specs.declared.held.Held.{Held}
 use Rattle.ck_model.specs.Table.{Table, column, with_entry}
 use Rattle.ck_model.specs.Rules.{IsOrderly, block_in}
 use Rattle.ck_model.proofs.CaseLaws.{none_some}
-use Rattle.ck_chain.specs.Naming.{block_of, IsNamed, Naming}
+use Rattle.ck_chain.specs.Named.{block_of, IsNamed, Naming}
 use Rattle.ck_chain.specs.Needless.{tidied}
 use Rattle.ck_chain.proofs.ColumnLaws.{column-with_entry, column-with_entry_other, same_or_other}
 use Rattle.ck_chain.proofs.OrderlyLaws.{still_stood}

@@ -1,6 +1,6 @@
 pub mod Needless
 pub mod Kept
-pub mod Naming
+pub mod Named
 pub mod Changes
-pub mod Following
+pub mod Order
 pub mod Fits

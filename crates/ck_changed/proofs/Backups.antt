@@ -10,14 +10,14 @@ use Rattle.ck_model.specs.declared.key.Key.{Key}
 use Rattle.ck_model.specs.declared.cell.Cell.{Cell}
 use Rattle.ck_model.specs.Key.{key_cmp, key_cmp_total, key_cmp_exact}
 use Rattle.ck_model.specs.Cells.{Cells, Content, differs}
-use Rattle.ck_model.specs.Standing.{checkpoint_on, values_of}
+use Rattle.ck_model.specs.TableWorld.{checkpoint_on, values_of}
 use Rattle.ck_model.specs.Streams.{changed, image}
 use Rattle.ck_model.specs.Table.{Table}
 use Rattle.ck_model.specs.Values.{Store, cells_on}
 use Rattle.ck_model.specs.World.{shown_by, keeps_files}
 use Rattle.ck_model.proofs.CellLaws.{find-values, is_sorted-values}
 use Rattle.ck_model.proofs.StreamLaws.{changed-marked, find-changed, is_sorted-changed, find-image, is_sorted-image}
-use Rattle.ck_changed.specs.Turning.{rest_after}
+use Rattle.ck_changed.specs.Compare.{rest_after}
 
 -- ---- the frozen maps
 

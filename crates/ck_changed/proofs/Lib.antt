@@ -1,5 +1,5 @@
-pub mod DifferingLemmas
-pub mod Fitting
+pub mod DifferenceLemmas
+pub mod Fits
 pub mod Kept
-pub mod TurningLemmas
+pub mod CompareLemmas
 pub mod Backups

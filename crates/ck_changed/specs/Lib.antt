@@ -1,2 +1,2 @@
-pub mod Differing
-pub mod Turning
+pub mod Difference
+pub mod Compare

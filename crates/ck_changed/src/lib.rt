@@ -1,9 +1,9 @@
 //! What differs between two checkpoints of a table, one key at a time. Generic over the table.
 #![tactic(auto)]
 
-mod comparing;
-mod following;
-mod turning;
+mod candidate;
+mod compare;
+mod difference;
 
-pub use comparing::next_difference;
-pub use turning::{Compare, Next};
+pub use compare::{Compare, Next};
+pub use difference::next_difference;

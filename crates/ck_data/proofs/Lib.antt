@@ -1,4 +1,4 @@
-pub mod ReadingLemmas
+pub mod ReadLemmas
 pub mod PatchLemmas
 pub mod StoredLaws
 pub mod PlaceLemmas

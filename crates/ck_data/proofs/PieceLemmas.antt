@@ -8,13 +8,13 @@ use Rattle.std.proofs.lemmas.List.{get_or-replicate, length-replicate, get_or-ta
 use mathlib.Core.Bool.{false≢true}
 use Rattle.ck_model.specs.declared.key.Key.TheVariants.{Block}
 use Rattle.ck_model.specs.Changes.{block_after, byte_after, cut_block}
-use Rattle.ck_model.specs.Reading.{block_byte}
+use Rattle.ck_model.specs.Contents.{block_byte}
 use Rattle.ck_model.specs.Rules.{block_in}
 use Rattle.ck_model.specs.Values.{Store, Values, cells_on}
 use Rattle.ck_data.specs.Piece.{IsPiece}
 use Rattle.ck_data.specs.Reads.{bytes_of}
 use Rattle.ck_data.specs.Writes.{patched}
-use Rattle.ck_data.proofs.ReadingLemmas.{bytes-cells_on, map_shift, zeros}
+use Rattle.ck_data.proofs.ReadLemmas.{bytes-cells_on, map_shift, zeros}
 
 -- ---- a byte of the block
 

@@ -2,7 +2,7 @@ ghost use Rattle.std.specs.Prelude.{◌≡◌, ◌⊎◌, ◌+◌, ◌≤◌, �
 ghost use Rattle.std.specs.FinSet as set;
 ghost use Rattle.std.specs.List.{AllByRecursion};
 ghost use Rattle.ck_alloc.specs.Blocks.{IsFree, IsPartition, free_count};
-ghost use Rattle.ck_model.specs.Standing.{world_on};
+ghost use Rattle.ck_model.specs.TableWorld.{world_on};
 ghost use Rattle.ck_model.specs.World.{Mounts};
 ghost use Rattle.ck_push.specs.Growth.{write_count};
 ghost use Rattle.ck_tree.specs.Plan.{block_by};

@@ -1,11 +1,11 @@
 ghost use Rattle.std.specs.Prelude.{◌≡◌, ◌+◌, ◌≤◌, ◌<◌, ◌++◌, IsTrue, OnOk, IfOk, IfErr};
 ghost use Rattle.std.specs.Option.{ForSome, option_and_then};
 ghost use Rattle.ck_model.specs.Limits.{file_limit};
-ghost use Rattle.ck_model.specs.Reading.{file_range};
+ghost use Rattle.ck_model.specs.Contents.{file_range};
 ghost use Rattle.ck_model.specs.Values.{cells_on};
 ghost use Rattle.ck_model.specs.Rules.{block_in};
 ghost use Rattle.ck_model.specs.Chain.{value_at};
-ghost use Rattle.ck_model.specs.Standing.{values_of};
+ghost use Rattle.ck_model.specs.TableWorld.{values_of};
 ghost use Rattle.ck_files.specs.Plain.{IsOurs};
 ghost use Rattle.ck_data.specs.Device.{store_on};
 ghost use Rattle.ck_data.specs.declared.fault.Fault.TheVariants.{ReadFault};

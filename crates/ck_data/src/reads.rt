@@ -1,10 +1,10 @@
 ghost use Rattle.std.specs.Prelude.{◌≡◌, ◌+◌, ◌≤◌, false, IsTrue, IfOk, IfErr};
 ghost use Rattle.ck_model.specs.Limits.{file_limit};
 ghost use Rattle.ck_model.specs.World.{World};
-ghost use Rattle.ck_model.specs.Reporting.{range_read, checkpoint_read};
+ghost use Rattle.ck_model.specs.ReadCalls.{range_read, checkpoint_read};
 ghost use Rattle.ck_model.specs.History.{is_fault};
 ghost use Rattle.ck_model.specs.Step.{answered};
-ghost use Rattle.ck_model.specs.Standing.{values_of, world_on};
+ghost use Rattle.ck_model.specs.TableWorld.{values_of, world_on};
 ghost use Rattle.ck_model.specs.Values.{cells_on};
 ghost use Rattle.ck_data.specs.Device.{store_on};
 ghost use Rattle.ck_files.specs.Plain.{IsOurs};

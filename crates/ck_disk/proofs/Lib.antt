@@ -1,5 +1,5 @@
 pub mod MomentLaws
 pub mod Steps
-pub mod Tearing
-pub mod Losing
+pub mod TornWrites
+pub mod LostWrites
 pub mod RunLaws

@@ -11,7 +11,7 @@ use Rattle.ck_log.proofs.RecoveryLaws.{table_on-set, settled-keeps}
 use Rattle.ck_alloc.specs.Blocks.{Allocation, IsPartition, free_count}
 use Rattle.ck_model.specs.World.{World, unmounted}
 use Rattle.ck_model.specs.Table.{Table}
-use Rattle.ck_model.specs.Standing.{world_on, extent_count}
+use Rattle.ck_model.specs.TableWorld.{world_on, extent_count}
 use Rattle.ck_files.specs.Allocated.{IsAllocated, KeepsBusy}
 use Rattle.ck_engine.specs.Committed.{Keeps, OpensToEither}
 use Rattle.ck_data.specs.Device.{store_on}

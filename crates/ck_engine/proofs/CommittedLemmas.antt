@@ -8,7 +8,7 @@ use Rattle.ck_log.specs.Images.{table_on, Settled, CommitLeaves}
 use Rattle.ck_alloc.specs.Blocks.{Allocation, IsPartition}
 use Rattle.ck_model.specs.World.{World}
 use Rattle.ck_model.specs.Table.{Table}
-use Rattle.ck_model.specs.Standing.{world_on}
+use Rattle.ck_model.specs.TableWorld.{world_on}
 use Rattle.ck_area.specs.Area.{AreSlots, written_as}
 use Rattle.ck_files.specs.Allocated.{is_named, is_busy, IsAllocated, KeepsBusy}
 use Rattle.ck_engine.specs.Committed.{Keeps, OpensToEither}

@@ -9,7 +9,7 @@ use Rattle.ck_log.specs.Layout.{Layout, table_blocks, base_of, size_of}
 use Rattle.ck_log.specs.Header.{Opens as OpensAt}
 use Rattle.ck_log.specs.FirstTable.{first_table, new_layout}
 use Rattle.ck_log.specs.Images.{recovered_region, table_on, Settled}
-use Rattle.ck_model.specs.Standing.{world_on}
+use Rattle.ck_model.specs.TableWorld.{world_on}
 use Rattle.ck_model.specs.Table.{Table}
 use Rattle.ck_area.specs.Area.{AreSlots, new_table}
 use Rattle.ck_slots.specs.Formatted.{StandsForEmpty}

@@ -4,7 +4,7 @@ use Rattle.std.specs.List.{list_any}
 use Rattle.std.proofs.lemmas.Bool.Decides.{nat_tests}
 use Rattle.ck_alloc.specs.Blocks.{Allocation, IsPartition, used_alone}
 use Rattle.ck_model.specs.declared.held.Held.TheVariants.{Extent}
-use Rattle.ck_model.specs.Standing.{extents_of}
+use Rattle.ck_model.specs.TableWorld.{extents_of}
 use Rattle.ck_model.specs.Table.{column}
 use Rattle.ck_files.proofs.AllocatedLaws.{contains-listed}
 use Rattle.ck_files.proofs.NamedLaws.{is-named, extent_is}
@@ -19,7 +19,7 @@ use Rattle.ck_log.proofs.RecoveryLaws.{recovered_region-agrees, table_on-agrees,
 use Rattle.ck_model.specs.World.{keeps_files}
 use Rattle.ck_model.specs.Table.{Table}
 use Rattle.ck_model.specs.Rules.{IsSound}
-use Rattle.ck_model.specs.Standing.{world_on}
+use Rattle.ck_model.specs.TableWorld.{world_on}
 use Rattle.ck_area.specs.Area.{AreSlots}
 use Rattle.ck_slots.specs.Opened.{IsBuilt, IsOpened as IsOpenedTable}
 use Rattle.ck_files.specs.Allocated.{is_named, IsAllocated}

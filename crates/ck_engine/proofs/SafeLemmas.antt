@@ -10,7 +10,7 @@ use Rattle.ck_log.proofs.AreaLaws.{area_low, area_high}
 use Rattle.ck_log.proofs.RecoveryLaws.{recovered_region-set, table_on-set, recovered_region-gate, recovered_region-settled}
 use Rattle.ck_alloc.specs.Blocks.{Allocation, IsFree}
 use Rattle.ck_model.specs.Table.{Table}
-use Rattle.ck_model.specs.Standing.{world_on}
+use Rattle.ck_model.specs.TableWorld.{world_on}
 use Rattle.ck_area.specs.Area.{Area, AreSlots, table_of, written_as}
 use Rattle.ck_area.specs.Damage.{damage, is_unbuilt}
 use Rattle.ck_area.proofs.WrittenLaws.{read_again, undamaged_written, built_written}

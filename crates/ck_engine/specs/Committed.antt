@@ -6,7 +6,7 @@ use Rattle.ck_log.specs.Layout.{Layout, base_of}
 use Rattle.ck_alloc.specs.Blocks.{Allocation}
 use Rattle.ck_model.specs.World.{World}
 use Rattle.ck_model.specs.Table.{Table}
-use Rattle.ck_model.specs.Standing.{world_on}
+use Rattle.ck_model.specs.TableWorld.{world_on}
 use Rattle.ck_files.specs.Allocated.{is_named, is_busy}
 use Rattle.ck_data.specs.Device.{store_on}
 use Rattle.ck_files.specs.Plain.{IsOurs}

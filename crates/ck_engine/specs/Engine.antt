@@ -7,7 +7,7 @@ use Rattle.ck_log.specs.Images.{Settled}
 use Rattle.ck_alloc.specs.Blocks.{Allocation}
 use Rattle.ck_model.specs.World.{World, Mounts, unmounted}
 use Rattle.ck_model.specs.Table.{Table}
-use Rattle.ck_model.specs.Standing.{world_on}
+use Rattle.ck_model.specs.TableWorld.{world_on}
 use Rattle.ck_slots.specs.Slots.{table_in}
 use Rattle.ck_data.specs.declared.fault.Fault.{Fault}
 use Rattle.ck_data.specs.declared.fault.Fault.TheVariants as fault

@@ -6,7 +6,7 @@ use Rattle.ck_log.specs.Layout.{Layout, area_at, base_of}
 use Rattle.ck_log.specs.Header.{Recovered, NotVolume as NoVolume, BadFormat as BadHeader, Opens as OpensAt}
 use Rattle.ck_log.specs.Images.{recovered_region, table_on}
 use Rattle.ck_model.specs.World.{World}
-use Rattle.ck_model.specs.Standing.{world_on}
+use Rattle.ck_model.specs.TableWorld.{world_on}
 use Rattle.ck_area.specs.Area.{Area, AreSlots, table_of}
 use Rattle.ck_area.specs.Damage.{damage, is_unbuilt}
 use Rattle.ck_data.specs.Device.{store_on}

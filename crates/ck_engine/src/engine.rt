@@ -3,7 +3,7 @@ ghost use Rattle.std.specs.FinSet as set;
 ghost use Rattle.ck_disk.specs.Disk.{Image};
 ghost use Rattle.ck_alloc.specs.Blocks.{free_count};
 ghost use Rattle.ck_model.specs.World.{World, unmounted};
-ghost use Rattle.ck_model.specs.Standing.{extent_count};
+ghost use Rattle.ck_model.specs.TableWorld.{extent_count};
 ghost use Rattle.ck_files.specs.Reports.{limits_of};
 ghost use Rattle.ck_data.specs.declared.fault.Fault.TheVariants as fault;
 ghost use Rattle.ck_data.specs.Writes.{IsWritingFault};

@@ -17,7 +17,7 @@ use Rattle.ck_model.specs.declared.held.Held.TheVariants.{Absent, Plain, Extent,
 use Rattle.ck_model.specs.Key.{entry_cmp, entry_cmp_total, entry_cmp_exact}
 use Rattle.ck_model.specs.Table.{Table, column}
 use Rattle.ck_model.specs.Rules.{IsSound}
-use Rattle.ck_model.specs.Standing.{blocks_of, extents_of, extent_count}
+use Rattle.ck_model.specs.TableWorld.{blocks_of, extents_of, extent_count}
 use Rattle.ck_model.proofs.CaseLaws.{head_of}
 use Rattle.ck_model.proofs.FilesetLaws.{not_below}
 use Rattle.ck_alloc.specs.Blocks.{Allocation}

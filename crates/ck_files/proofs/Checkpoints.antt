@@ -14,7 +14,7 @@ use Rattle.ck_model.specs.World.{keeps_files, shown_by}
 use Rattle.ck_model.specs.Table.{Table, IsTable, column}
 use Rattle.ck_model.specs.Chain.{present, value_of, value_at, is_live, is_live_data, keeps_data, as_mark, seen}
 use Rattle.ck_model.specs.Values.{Store, cell_on, cells_on}
-use Rattle.ck_model.specs.Standing.{values_of, checkpoint_on, checkpoints_on}
+use Rattle.ck_model.specs.TableWorld.{values_of, checkpoint_on, checkpoints_on}
 use Rattle.ck_model.proofs.ValueLaws.{get-values_of}
 use Rattle.ck_model.proofs.FilesetLaws.{all_found}
 use Rattle.ck_files.specs.Plain.{IsPlain, IsPlainFileset}

@@ -25,22 +25,22 @@ use Rattle.ck_model.specs.Refusals.{and_then, refuse_if}
 use Rattle.ck_model.specs.Cells.{Cells, differences}
 use Rattle.ck_model.specs.World.{World, Checkpoint, Mounts, shown_by}
 use Rattle.ck_model.specs.Space.{next_cells, difference_count, records_in}
-use Rattle.ck_model.specs.Freezing.{frozen_world}
-use Rattle.ck_model.specs.Freezing as freezing
+use Rattle.ck_model.specs.CheckpointCalls.{frozen_world}
+use Rattle.ck_model.specs.CheckpointCalls as freezing
 use Rattle.ck_model.specs.Step.{Outcome, outcome_of, with_room, created}
 use Rattle.ck_model.specs.Table.{Table, IsTable, column, record_count, spare_count}
 use Rattle.ck_model.specs.Chain.{present, value_of, value_at, is_live, live_ids, as_mark, seen}
 use Rattle.ck_model.specs.Rules.{IsSound}
 use Rattle.ck_model.specs.Values.{Store, cell_on, cells_on}
-use Rattle.ck_model.specs.Standing.{values_of, checkpoint_on, checkpoints_on, world_on, extents_of, extent_count}
+use Rattle.ck_model.specs.TableWorld.{values_of, checkpoint_on, checkpoints_on, world_on, extents_of, extent_count}
 use Rattle.ck_model.specs.Limits.{checkpoint_limit}
 use Rattle.ck_model.proofs.DifferenceLaws.{len-shown_differences}
 use Rattle.ck_model.proofs.FilesetLaws.{all_found}
 use Rattle.ck_model.proofs.ValueLaws.{get-values_of}
-use Rattle.ck_table.specs.declared.adding.AddFault.{AddFault}
-use Rattle.ck_table.specs.declared.adding.AddFault.TheVariants as fault
+use Rattle.ck_table.specs.declared.added.AddFault.{AddFault}
+use Rattle.ck_table.specs.declared.added.AddFault.TheVariants as fault
 use Rattle.ck_table.specs.Names.{id_named}
-use Rattle.ck_table.specs.Adding.{new_id, new_fileset, with_added}
+use Rattle.ck_table.specs.Added.{new_id, new_fileset, with_added}
 use Rattle.ck_files.specs.Freeze.{refusal_of, refused_or}
 use Rattle.ck_files.specs.Plain.{IsPlainFileset, IsPlain, IsOurs}
 use Rattle.ck_files.specs.Room.{has_room, lack_of_room, answered_with}

@@ -11,7 +11,7 @@ pub mod CreateLemmas
 pub mod WorldAfter
 pub mod MadeLemmas
 pub mod NewBlocks
-pub mod ChangingLemmas
+pub mod ChangeLemmas
 pub mod PlacedLemmas
 pub mod PlacedLaws
 pub mod NamesLemmas

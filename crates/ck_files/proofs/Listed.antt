@@ -12,8 +12,8 @@ use Rattle.ck_model.specs.World.{Checkpoint, keeps_files, is_named, has_id}
 use Rattle.ck_model.specs.Table.{Table, IsTable, newer}
 use Rattle.ck_model.specs.Chain.{is_live, live_ids}
 use Rattle.ck_model.specs.Values.{Store}
-use Rattle.ck_model.specs.Reporting.{lines_of}
-use Rattle.ck_model.specs.Standing.{checkpoint_on, checkpoints_on}
+use Rattle.ck_model.specs.ReadCalls.{lines_of}
+use Rattle.ck_model.specs.TableWorld.{checkpoint_on, checkpoints_on}
 use Rattle.ck_model.proofs.CountLaws.{all_placed}
 use Rattle.ck_model.specs.Placed.{IsPlaced, ArePlaced}
 use Rattle.ck_table.specs.Names as names

@@ -5,7 +5,7 @@ use mathlib.Core.Bool.{false≢true}
 use Rattle.ck_model.specs.declared.change.Change.{Change}
 use Rattle.ck_model.specs.Table.{Table, IsSized, record_count, spare_count}
 use Rattle.ck_model.specs.Chain.{newest_live_of}
-use Rattle.ck_chain.specs.Naming.{block_of, IsNamed}
+use Rattle.ck_chain.specs.Named.{block_of, IsNamed}
 use Rattle.ck_chain.specs.Changes.{deletions_first, is_deletion, key_of, value_after}
 use Rattle.ck_push.specs.Changed.{changed}
 use Rattle.ck_push.specs.Growth.{gain, loss, gains, losses, growth, one_if, absent_goes}

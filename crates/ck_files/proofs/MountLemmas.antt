@@ -12,11 +12,11 @@ use Rattle.ck_model.specs.declared.reply.Reply.TheVariants.{Done, NoCkpt, InUse,
 use Rattle.ck_model.specs.Refusals.{and_then, refuse_if}
 use Rattle.ck_model.specs.Cells.{Cells}
 use Rattle.ck_model.specs.World.{World, Checkpoint, Mounts, keeps_files, is_named, shown_by}
-use Rattle.ck_model.specs.Freezing.{mounted, standing, mounted_checkpoint, with_data}
+use Rattle.ck_model.specs.CheckpointCalls.{mounted, standing, mounted_checkpoint, with_data}
 use Rattle.ck_model.specs.Step.{Outcome, done}
 use Rattle.ck_model.specs.Table.{Table, IsTable}
 use Rattle.ck_model.specs.Values.{Store, cells_on}
-use Rattle.ck_model.specs.Standing.{values_of, checkpoint_on, world_on}
+use Rattle.ck_model.specs.TableWorld.{values_of, checkpoint_on, world_on}
 use Rattle.ck_table.specs.Names as names
 use Rattle.ck_files.specs.Mounts.{IsMounted}
 use Rattle.ck_files.specs.Plain.{IsOurs}

@@ -10,7 +10,7 @@ use Rattle.ck_model.specs.declared.held.Held.{Held}
 use Rattle.ck_model.specs.declared.held.Held.TheVariants.{Absent, Plain, Extent, Mark}
 use Rattle.ck_model.specs.declared.change.Freed.{Freed}
 use Rattle.ck_model.specs.Table.{Table, column}
-use Rattle.ck_chain.specs.Naming.{block_of, IsNamed}
+use Rattle.ck_chain.specs.Named.{block_of, IsNamed}
 use Rattle.ck_push.specs.Released.{IsFreed}
 use Rattle.ck_alloc.specs.Blocks.{Allocation, IsPartition}
 use Rattle.ck_files.specs.Allocated.{is_named, is_taken, IsAllocatedBut, AreUnnamed, blocks_held, is_busy, KeepsBusy}

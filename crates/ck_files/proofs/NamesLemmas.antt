@@ -3,9 +3,9 @@ use Rattle.std.proofs.Common.{◌≡◌, ℕ, ◌+◌, ◌≤◌, List, [], ◌�
 use Rattle.std.specs.List.{filter_map, cons_option}
 use Rattle.std.specs.FinMap as map
 use Rattle.ck_model.specs.Cells.{Cells}
-use Rattle.ck_model.specs.Reading.{child_in, children}
+use Rattle.ck_model.specs.Contents.{child_in, children}
 use Rattle.ck_model.specs.Space.{records_in}
-use Rattle.ck_model.specs.Standing.{values_of, world_on}
+use Rattle.ck_model.specs.TableWorld.{values_of, world_on}
 use Rattle.ck_model.specs.Table.{Table, record_count}
 use Rattle.ck_model.specs.Values.{Store, cells_on}
 use Rattle.ck_files.specs.Plain.{IsOurs}

@@ -24,7 +24,7 @@ use Rattle.ck_model.specs.Table.{Table, column}
 use Rattle.ck_model.specs.Chain.{present}
 use Rattle.ck_model.specs.Rules.{IsSound, stamp_in}
 use Rattle.ck_model.specs.Values.{Store, cell_on, cells_on}
-use Rattle.ck_model.specs.Standing.{values_of}
+use Rattle.ck_model.specs.TableWorld.{values_of}
 use Rattle.ck_model.proofs.SizeLaws.{len_same_keys, contains_key-retain_keys}
 use Rattle.ck_chain.specs.Changes.{key_of, is_write, value_after}
 use Rattle.ck_chain.proofs.ColumnLaws.{same_or_other}

@@ -24,7 +24,7 @@ use Rattle.ck_model.specs.declared.reply.SpaceOf.TheVariants.{Blocks, Records}
 use Rattle.ck_model.specs.History.{is_fault}
 use Rattle.ck_model.specs.Cells.{Cells}
 use Rattle.ck_model.specs.Changes.{cell_of, with_node, without_file, without_directory, renamed, written, resized}
-use Rattle.ck_model.specs.Changing.{is_spent, has_names, with_primary, changed_by}
+use Rattle.ck_model.specs.FileCalls.{is_spent, has_names, with_primary, changed_by}
 use Rattle.ck_model.specs.Limits.{file_limit}
 use Rattle.ck_model.specs.Held.{IsCounters}
 use Rattle.ck_model.specs.Refusals.{and_then, refuse_if}
@@ -34,8 +34,8 @@ use Rattle.ck_model.specs.Table.{Table, column, record_count, spare_count}
 use Rattle.ck_model.specs.Values.{Store, payload_of}
 use Rattle.ck_model.specs.Walk.{file_at, directory_at, name_at, new_name_at}
 use Rattle.ck_model.specs.World.{World, Mounts}
-use Rattle.ck_model.specs.Standing.{world_on, extent_count}
-use Rattle.ck_chain.specs.Naming.{block_of, IsNamed}
+use Rattle.ck_model.specs.TableWorld.{world_on, extent_count}
+use Rattle.ck_chain.specs.Named.{block_of, IsNamed}
 use Rattle.ck_chain.specs.Changes.{deletions_first, is_deletion, key_of, value_after}
 use Rattle.ck_push.specs.Changed.{push_of}
 use Rattle.ck_push.specs.Growth.{gain, gains, loss, losses, one_if, write_count}
@@ -50,9 +50,9 @@ use Rattle.ck_push.specs.Changes.{MayChangeAll, AllApart, MayChange, changed_all
 use Rattle.ck_files.specs.Places.{with_places, AreDistinct, ArePlaced, AreHeld}
 use Rattle.ck_files.specs.Plain.{IsOurs}
 use Rattle.ck_files.specs.Room.{has_room, lack_of_room, answered_with}
-use Rattle.ck_tree.proofs.StandingLaws.{stands_on as stands}
+use Rattle.ck_tree.proofs.MapLaws.{stands_on as stands}
 use Rattle.ck_files.proofs.NamedLaws.{extent_is, is-named, named-is}
-use Rattle.ck_files.proofs.ChangingLemmas.{changing-full, changing-fits}
+use Rattle.ck_files.proofs.ChangeLemmas.{changing-full, changing-fits}
 use Rattle.ck_files.proofs.PlacedLemmas.{IsPlace, placed_gains, placed_losses, placed_first, placed_blocks, room_records, planned_up, planned_raised, planned_may, planned-fits}
 
 -- the numbers that are given next after it

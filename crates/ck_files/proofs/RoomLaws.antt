@@ -17,7 +17,7 @@ use Rattle.ck_model.specs.Step.{Outcome, with_room}
 use Rattle.ck_model.specs.Table.{Table, IsTable, record_count}
 use Rattle.ck_model.specs.Rules.{IsSound}
 use Rattle.ck_model.specs.Values.{Store}
-use Rattle.ck_model.specs.Standing.{checkpoint_on, checkpoints_on, world_on, extent_count}
+use Rattle.ck_model.specs.TableWorld.{checkpoint_on, checkpoints_on, world_on, extent_count}
 use Rattle.ck_model.proofs.FilesetLaws.{all_found}
 use Rattle.ck_model.proofs.CountLaws.{records_are, extents_are, live_all}
 use Rattle.ck_model.specs.Placed.{NoneGone, AllStripped}

@@ -10,10 +10,10 @@ use Rattle.ck_model.specs.Table.{Table}
 use Rattle.ck_model.specs.Chain.{value_at}
 use Rattle.ck_model.specs.Rules.{IsSound, block_in}
 use Rattle.ck_model.specs.Values.{Store, cell_on, cells_on}
-use Rattle.ck_model.specs.Standing.{values_of}
+use Rattle.ck_model.specs.TableWorld.{values_of}
 use Rattle.ck_model.proofs.ValueLaws.{get-values_of, get-cells_on}
 use Rattle.ck_model.specs.Values.{payload_of}
-use Rattle.ck_tree.specs.Standing.{StandsFor, small_in, without_bytes}
+use Rattle.ck_tree.specs.Map.{StandsFor, small_in, without_bytes}
 use Rattle.ck_files.proofs.WorldLaws.{value_column}
 
 -- the data block of a value is below the number of data blocks

@@ -18,7 +18,7 @@ use Rattle.ck_model.specs.Table.{Table, IsTable, column}
 use Rattle.ck_model.specs.Chain.{present}
 use Rattle.ck_model.specs.Rules.{IsSound, IsOwn}
 use Rattle.ck_model.specs.Values.{Store, cell_on, cells_on}
-use Rattle.ck_model.specs.Standing.{values_of, world_on}
+use Rattle.ck_model.specs.TableWorld.{values_of, world_on}
 use Rattle.ck_model.proofs.ValueLaws.{get-values_of, get-cells_on}
 use Rattle.ck_chain.specs.Changes.{key_of, value_after}
 use Rattle.ck_chain.proofs.ColumnLaws.{same_or_other}

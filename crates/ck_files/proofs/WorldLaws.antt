@@ -16,7 +16,7 @@ use Rattle.ck_model.specs.World.{Mounts, shown_by}
 use Rattle.ck_model.specs.Table.{Table, column, newer}
 use Rattle.ck_model.specs.Chain.{first_entry, present, value_of, value_at}
 use Rattle.ck_model.specs.Values.{Store, Values, cell_on, cells_on}
-use Rattle.ck_model.specs.Standing.{values_of, checkpoint_on, live_filesets, world_on, blocks_in, blocks_of}
+use Rattle.ck_model.specs.TableWorld.{values_of, checkpoint_on, live_filesets, world_on, blocks_in, blocks_of}
 use Rattle.ck_model.proofs.ValueLaws.{get-values_of, get-cells_on}
 use Rattle.ck_files.specs.Allocated.{is_named, SameNamed}
 

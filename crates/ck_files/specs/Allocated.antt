@@ -5,7 +5,7 @@ use Rattle.std.specs.List.{list_any}
 use Rattle.std.specs.FinSet as set
 use Rattle.ck_alloc.specs.Blocks.{Allocation, IsPartition}
 use Rattle.ck_model.specs.Table.{Table}
-use Rattle.ck_model.specs.Standing.{extents_of, blocks_in}
+use Rattle.ck_model.specs.TableWorld.{extents_of, blocks_in}
 use Rattle.ck_model.specs.Values.{Store}
 
 abbrev pub is_named : Table → ℕ → Bool

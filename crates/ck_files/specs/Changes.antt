@@ -13,7 +13,7 @@ use Rattle.ck_model.specs.Held.{IsEntry, IsKey, IsCounters}
 use Rattle.ck_model.specs.Values.{Store, cell_on}
 use Rattle.ck_model.specs.Table.{Table, column}
 use Rattle.ck_model.specs.Rules.{KeyBelow, HeldBelow, stamp_in}
-use Rattle.ck_chain.specs.Naming.{block_of, IsNamed}
+use Rattle.ck_chain.specs.Named.{block_of, IsNamed}
 use Rattle.ck_chain.specs.Changes.{key_of, is_deletion, value_after}
 use Rattle.ck_push.specs.Changed.{changed}
 use Rattle.ck_files.specs.Allocated.{blocks_held}

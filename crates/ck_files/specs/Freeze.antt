@@ -7,9 +7,9 @@ use Rattle.ck_model.specs.declared.reply.Reply.{Reply}
 use Rattle.ck_model.specs.declared.reply.Reply.TheVariants as reply
 use Rattle.ck_model.specs.History.{created_id}
 use Rattle.ck_model.specs.Table.{Table}
-use Rattle.ck_table.specs.Adding.{new_fileset, with_added}
-use Rattle.ck_table.specs.declared.adding.AddFault.{AddFault}
-use Rattle.ck_table.specs.declared.adding.AddFault.TheVariants.{Exists, TooMany, Spent}
+use Rattle.ck_table.specs.Added.{new_fileset, with_added}
+use Rattle.ck_table.specs.declared.added.AddFault.{AddFault}
+use Rattle.ck_table.specs.declared.added.AddFault.TheVariants.{Exists, TooMany, Spent}
 
 -- why it isn't added, where at most so many may stand
 abbrev pub refusal_of : ℕ → AddFault → Reply

@@ -3,10 +3,10 @@ use Rattle.std.specs.Prelude.{◌≡◌, ◌≤◌, ℕ, Ok, Some}
 use Rattle.std.specs.FinMap as map
 use Rattle.ck_model.specs.declared.checkpoint.Fileset.{Fileset}
 use Rattle.ck_model.specs.World.{Mounts}
-use Rattle.ck_model.specs.Freezing.{mounted_checkpoint, with_data}
+use Rattle.ck_model.specs.CheckpointCalls.{mounted_checkpoint, with_data}
 use Rattle.ck_model.specs.Table.{Table}
 use Rattle.ck_model.specs.Values.{Store, cells_on}
-use Rattle.ck_model.specs.Standing.{values_of, checkpoint_on, world_on}
+use Rattle.ck_model.specs.TableWorld.{values_of, checkpoint_on, world_on}
 
 -- the letter stands for the checkpoint with this id, which has data
 pub record IsMounted (store : Store) (mounts : Mounts) (t : Table) (actor letter id : ℕ) : Type 0 where

@@ -6,10 +6,10 @@ use Rattle.ck_model.specs.Step.{changing}
 use Rattle.ck_model.specs.World.{Mounts}
 use Rattle.ck_model.specs.Table.{Table}
 use Rattle.ck_model.specs.Values.{Store}
-use Rattle.ck_model.specs.Standing.{world_on}
+use Rattle.ck_model.specs.TableWorld.{world_on}
 use Rattle.ck_push.specs.Growth.{gains, losses, write_count}
 use Rattle.ck_tree.specs.Plan.{IsPlan}
-use Rattle.ck_model.specs.Changing.{changed_by}
+use Rattle.ck_model.specs.FileCalls.{changed_by}
 use Rattle.ck_files.specs.Room.{has_room, answered_with}
 use Rattle.ck_files.specs.declared.planned.Planned.{Planned}
 use Rattle.ck_files.specs.declared.planned.Planned.TheVariants.{Answered, Changes}

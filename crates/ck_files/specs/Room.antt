@@ -6,7 +6,7 @@ use Rattle.ck_model.specs.declared.reply.SpaceOf.TheVariants.{Blocks, Records}
 use Rattle.ck_model.specs.World.{World}
 use Rattle.ck_model.specs.Step.{Outcome}
 use Rattle.ck_model.specs.Table.{Table, record_count}
-use Rattle.ck_model.specs.Standing.{extent_count}
+use Rattle.ck_model.specs.TableWorld.{extent_count}
 
 -- so many records come to so many, which are that many more, or no more
 pub record Grows (before after records : ℕ) : Type 0 where

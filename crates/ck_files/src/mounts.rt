@@ -1,10 +1,10 @@
 ghost use Rattle.std.specs.Prelude.{◌≡◌, IfOk, IfErr, OnErr, MatchResult, Err, false};
-ghost use Rattle.ck_model.specs.Freezing.{dismounted, mounted, mounted_checkpoint};
+ghost use Rattle.ck_model.specs.CheckpointCalls.{dismounted, mounted, mounted_checkpoint};
 ghost use Rattle.ck_model.specs.History.{is_fault};
 ghost use Rattle.ck_model.specs.Step.{done};
 ghost use Rattle.ck_model.specs.Table.{Table};
 ghost use Rattle.ck_model.specs.Values.{Store};
-ghost use Rattle.ck_model.specs.Standing.{world_on};
+ghost use Rattle.ck_model.specs.TableWorld.{world_on};
 ghost use Rattle.ck_files.specs.Mounts.{IsMounted};
 ghost use Rattle.ck_files.specs.Plain.{IsOurs};
 ghost use Rattle.ck_files.specs.Room.{answered_with};

@@ -1,7 +1,7 @@
 ghost use Rattle.std.specs.Prelude.{◌≡◌, false, IfOk};
 ghost use Rattle.ck_model.specs.History.{is_fault};
-ghost use Rattle.ck_model.specs.Reporting.{checkpoint_names, names_listed, stat_reply, status_of};
-ghost use Rattle.ck_model.specs.Standing.{values_of, world_on};
+ghost use Rattle.ck_model.specs.ReadCalls.{checkpoint_names, names_listed, stat_reply, status_of};
+ghost use Rattle.ck_model.specs.TableWorld.{values_of, world_on};
 ghost use Rattle.ck_model.specs.Step.{answered};
 ghost use Rattle.ck_model.specs.Values.{Store, cells_on};
 ghost use Rattle.ck_model.specs.World.{Mounts, World};

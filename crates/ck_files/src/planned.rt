@@ -1,7 +1,7 @@
 ghost use Rattle.std.specs.Prelude.{◌≡◌, ◌≢◌, IfOk};
 ghost use Rattle.ck_tree.specs.declared.fault.TreeFault.TheVariants as fault;
 ghost use Rattle.ck_tree.specs.Faults.{reply_of};
-ghost use Rattle.ck_model.specs.Changing.{IsChanging};
+ghost use Rattle.ck_model.specs.FileCalls.{IsChanging};
 ghost use Rattle.ck_files.specs.declared.planned.Planned.TheVariants.{Answered};
 ghost use Rattle.ck_files.specs.Files.{AreFiles};
 ghost use Rattle.ck_files.specs.Planned.{IsPlanned};

@@ -1,8 +1,8 @@
 ghost use Rattle.std.specs.Prelude.{◌≡◌, IfOk};
 ghost use Rattle.ck_model.specs.World.{Mounts};
-ghost use Rattle.ck_model.specs.Reporting.{info_of, listing_of};
+ghost use Rattle.ck_model.specs.ReadCalls.{info_of, listing_of};
 ghost use Rattle.ck_model.specs.Values.{Store};
-ghost use Rattle.ck_model.specs.Standing.{extent_count, world_on};
+ghost use Rattle.ck_model.specs.TableWorld.{extent_count, world_on};
 ghost use Rattle.ck_files.specs.Plain.{IsOurs};
 ghost use Rattle.ck_files.specs.Reports.{limits_of, line_on, standing_at, state_shown};
 

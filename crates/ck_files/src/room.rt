@@ -1,5 +1,5 @@
 ghost use Rattle.std.specs.Prelude.{◌≡◌, ◌≤◌, ◌<◌, ◌^◌, true, false, MatchOption};
-ghost use Rattle.ck_model.specs.Standing.{extent_count};
+ghost use Rattle.ck_model.specs.TableWorld.{extent_count};
 ghost use Rattle.ck_files.specs.Files.{AreFiles};
 ghost use Rattle.ck_files.specs.Room.{has_room, lack_of_room};
 

@@ -6,7 +6,7 @@ use Rattle.ck_stream.specs.declared.fault.StreamFault.{StreamFault}
 use Rattle.ck_stream.specs.declared.stream.Stream.{Stream}
 use Rattle.ck_stream.specs.declared.stream.Stream.TheVariants as stream
 use Rattle.ck_stream.specs.declared.stream.Summary.{Summary}
-use Rattle.ck_stream.specs.Reading.{◌>>=◌, stream_at}
+use Rattle.ck_stream.specs.Parsed.{◌>>=◌, stream_at}
 use Rattle.ck_stream.specs.Seen.{summary_of, seen}
 use Rattle.ck_image.specs.declared.refusal.Refusal.{Refusal}
 use Rattle.ck_image.specs.declared.refusal.Refusal.TheVariants as refusal

@@ -13,7 +13,7 @@ use Rattle.ck_stream.specs.declared.stream.Stream.{Stream}
 use Rattle.ck_stream.specs.declared.stream.Stream.TheVariants as stream
 use Rattle.ck_stream.specs.declared.stream.Summary.{Summary}
 use Rattle.ck_stream.specs.Right.{contents, changes}
-use Rattle.ck_stream.specs.Reading.{◌>>=◌, stream_at}
+use Rattle.ck_stream.specs.Parsed.{◌>>=◌, stream_at}
 use Rattle.ck_stream.specs.Seen.{summary_of}
 use Rattle.ck_stream.specs.Texts.{change_for}
 use Rattle.ck_merge.specs.Merged.{merged}

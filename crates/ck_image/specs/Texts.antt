@@ -10,8 +10,8 @@ use Rattle.ck_stream.specs.declared.stream.Stream.TheVariants as stream
 use Rattle.ck_stream.specs.declared.stream.Summary.{Summary}
 use Rattle.ck_stream.specs.declared.tag.Header.{Header}
 use Rattle.ck_stream.specs.declared.tag.Header.TheVariants as header
-use Rattle.ck_stream.specs.Spelling.{items_of, text}
-use Rattle.ck_stream.specs.Reading.{◌>>=◌}
+use Rattle.ck_stream.specs.Written.{items_of, text}
+use Rattle.ck_stream.specs.Parsed.{◌>>=◌}
 use Rattle.ck_image.specs.declared.refusal.Refusal.{Refusal}
 use Rattle.ck_image.specs.declared.refusal.Refusal.TheVariants as refusal
 use Rattle.ck_image.specs.declared.command.Command.{Command}

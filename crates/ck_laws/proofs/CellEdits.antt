@@ -18,7 +18,7 @@ use Rattle.ck_model.specs.Rules.{KeyBelow}
 use Rattle.ck_model.specs.Walk.{file_at, directory_at, name_at, new_name_at}
 use Rattle.ck_model.specs.Changes.{cell_of, with_node, without_file, without_directory, renamed, touched, block_after, grown_to, written, cut_block, cut_at, cut_to, resized}
 use Rattle.ck_model.specs.World.{World}
-use Rattle.ck_model.specs.Changing.{is_spent, has_names, made, removed, removed_directory, moved, overwritten, truncated}
+use Rattle.ck_model.specs.FileCalls.{is_spent, has_names, made, removed, removed_directory, moved, overwritten, truncated}
 use Rattle.ck_model.specs.Limits.{file_limit}
 use Rattle.ck_laws.specs.Tree.{HasNode}
 use Rattle.ck_laws.specs.Laws.{ContentBelow, NumbersBelow}

@@ -7,7 +7,7 @@ use Rattle.ck_model.specs.declared.key.Key.TheVariants.{Name, Node, Block}
 use Rattle.ck_model.specs.declared.cell.Cell.{Cell}
 use Rattle.ck_model.specs.Cells.{Cells, bytes_in, is_directory_at, size_in, size_at}
 use Rattle.ck_model.specs.Walk.{walk_from}
-use Rattle.ck_model.specs.Reading.{block_byte, file_byte}
+use Rattle.ck_model.specs.Contents.{block_byte, file_byte}
 use Rattle.ck_laws.specs.Tree.{HasNode, child_at, IsTree, NodesBelow, IsGrown}
 use Rattle.ck_laws.proofs.Walks.{walk_here, here_parts, step_parts, step_from}
 use Rattle.ck_laws.proofs.Grafts.{IsGraft, grafted, some_and, same_child, same_directory, same_stands}

@@ -13,7 +13,7 @@ use Rattle.ck_model.specs.declared.cell.Cell.{Cell}
 use Rattle.ck_model.specs.declared.cell.Payload.TheVariants.{File, Bytes}
 use Rattle.ck_model.specs.Key.{key_cmp, is_past}
 use Rattle.ck_model.specs.Cells.{Cells, bytes_in, size_in, is_directory, is_directory_at, size_at, with_cells}
-use Rattle.ck_model.specs.Reading.{block_byte, file_byte}
+use Rattle.ck_model.specs.Contents.{block_byte, file_byte}
 use Rattle.ck_model.specs.Changes.{cell_of, touched, byte_after, block_after, grown_to, written, cut_block, cut_at, cut_to, resized}
 use Rattle.ck_laws.specs.Tree.{HasNode, IsGrown}
 use Rattle.ck_model.proofs.CellLaws.{get-with_cells, get-retain_keys}

@@ -12,7 +12,7 @@ use Rattle.ck_model.specs.declared.reply.Reply.TheVariants.{NoCkpt, NotData}
 use Rattle.ck_model.specs.Cells.{Cells, OfOneHistory}
 use Rattle.ck_model.specs.World.{World, Checkpoint, keeps_files, is_named, has_id, shown_by}
 use Rattle.ck_model.specs.Streams.{Texts}
-use Rattle.ck_model.specs.Freezing.{checkpoint_named, restored}
+use Rattle.ck_model.specs.CheckpointCalls.{checkpoint_named, restored}
 use Rattle.ck_model.specs.History.{Past, CallsBy, begun, created_id, past_after, IsLegalFrom}
 use Rattle.ck_laws.specs.Laws.{StampsBelow, Agree, IsWorld, KeptData, frozen_from, FrozenMapsAgree, FrozenChangesApply}
 use Rattle.ck_model.proofs.StreamLaws.{applied-changed}

@@ -8,7 +8,7 @@ use Rattle.ck_model.specs.declared.key.Key.TheVariants.{Name, Node, Block}
 use Rattle.ck_model.specs.declared.cell.Cell.{Cell}
 use Rattle.ck_model.specs.Cells.{Cells, named_node, is_directory, is_directory_at, size_at}
 use Rattle.ck_model.specs.Walk.{walk_from}
-use Rattle.ck_model.specs.Reading.{file_byte}
+use Rattle.ck_model.specs.Contents.{file_byte}
 use Rattle.ck_laws.specs.Tree.{HasName, HasNode, child_at, IsReached, IsTree}
 use Rattle.ck_laws.proofs.Walks.{directory_stands, child_stands, walk_here, here_parts, step_parts, step_from, walk_further}
 

@@ -2,9 +2,9 @@ pub mod WorldLemmas
 pub mod SpaceLemmas
 pub mod RefusalsLemmas
 pub mod RefusedWalks
-pub mod ChangingLemmas
-pub mod FreezingLemmas
-pub mod ReportingLemmas
+pub mod FileCalls
+pub mod CheckpointCalls
+pub mod ReadCalls
 pub mod StepLemmas
 pub mod HistoryLemmas
 pub mod Lookups

@@ -16,8 +16,8 @@ use Rattle.ck_model.specs.Refusals.{and_then, refuse_if}
 use Rattle.ck_model.specs.World.{World, Checkpoint}
 use Rattle.ck_model.specs.Space.{fits, no_space, given_up, without_picks, new_block_count}
 use Rattle.ck_model.specs.Streams.{Texts}
-use Rattle.ck_model.specs.Changing.{made, removed, removed_directory, moved, overwritten, truncated}
-use Rattle.ck_model.specs.Freezing.{frozen_world, new_id, checkpoint_named, older_than, any_keeps, as_nodata, with_changed, mounted_id, mounted, dismounted, dropped, with_flag, restored}
+use Rattle.ck_model.specs.FileCalls.{made, removed, removed_directory, moved, overwritten, truncated}
+use Rattle.ck_model.specs.CheckpointCalls.{frozen_world, new_id, checkpoint_named, older_than, any_keeps, as_nodata, with_changed, mounted_id, mounted, dismounted, dropped, with_flag, restored}
 use Rattle.ck_model.specs.Step.{Outcome, told, outcome_of, answered, done, with_room, changing, created, converted, step}
 use Rattle.ck_model.specs.History.{Past, CallsBy, is_fault, world_after, past_after}
 use Rattle.ck_laws.proofs.SpaceLemmas.{without_picks-rest}

@@ -10,16 +10,16 @@ use Rattle.ck_model.specs.declared.reply.SpaceOf.TheVariants.{Blocks, Records}
 use Rattle.ck_model.specs.World.{World}
 use Rattle.ck_model.specs.Space.{fits, blocks_fit, held, records_in, no_space, given_up, without_picks, new_block_count}
 use Rattle.ck_model.specs.Streams.{Texts}
-use Rattle.ck_model.specs.Freezing.{frozen_world, new_id, checkpoint_named, older_than, any_keeps, as_nodata, with_changed}
+use Rattle.ck_model.specs.CheckpointCalls.{frozen_world, new_id, checkpoint_named, older_than, any_keeps, as_nodata, with_changed}
 use Rattle.ck_model.specs.Step.{Outcome, told, outcome_of, answered, done, with_room, changing, created, converted, step}
 use Rattle.ck_model.specs.History.{is_fault, created_id}
 use Rattle.ck_laws.specs.Ordinary.{IsOrdinary, OrOrdinary}
 use Rattle.ck_laws.proofs.RefusalsLemmas.{and_then-given, and_then-ordinary}
 use Rattle.ck_laws.proofs.WorldLemmas.{AddsNone, AddsOne, AddsNone-itself}
 use Rattle.ck_laws.proofs.SpaceLemmas.{without_picks-rest, without_picks-adds}
-use Rattle.ck_laws.proofs.ChangingLemmas.{ChangesFiles, made-changes, removed-changes, removed_directory-changes, moved-changes, overwritten-changes, truncated-changes}
-use Rattle.ck_laws.proofs.FreezingLemmas.{frozen_world-adds, new_id-next, checkpoint_named-ordinary, with_changed-adds, as_nodata-later, dropped-adds, with_flag-adds, restored-adds, mounted-adds, dismounted-adds}
-use Rattle.ck_laws.proofs.ReportingLemmas.{range_read-ordinary, names_listed-ordinary, status_of-ordinary, checkpoint_read-ordinary, checkpoint_names-ordinary, full_stream-ordinary, changed_stream-ordinary}
+use Rattle.ck_laws.proofs.FileCalls.{ChangesFiles, made-changes, removed-changes, removed_directory-changes, moved-changes, overwritten-changes, truncated-changes}
+use Rattle.ck_laws.proofs.CheckpointCalls.{frozen_world-adds, new_id-next, checkpoint_named-ordinary, with_changed-adds, as_nodata-later, dropped-adds, with_flag-adds, restored-adds, mounted-adds, dismounted-adds}
+use Rattle.ck_laws.proofs.ReadCalls.{range_read-ordinary, names_listed-ordinary, status_of-ordinary, checkpoint_read-ordinary, checkpoint_names-ordinary, full_stream-ordinary, changed_stream-ordinary}
 
 -- a checkpoint with this id comes, if there is one, and else none
 abbrev pub Adds : World → Option ℕ → World → Type 0

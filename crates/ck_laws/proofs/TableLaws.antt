@@ -23,7 +23,7 @@ use Rattle.ck_model.specs.Chain.{first_entry, present, value_at}
 use Rattle.ck_model.specs.Rules.{IsOrderly, HeldBelow, stamp_in}
 use Rattle.ck_model.specs.Values.{Store, cell_on, cells_on}
 use Rattle.ck_model.specs.World.{Checkpoint, shown_by}
-use Rattle.ck_model.specs.Standing.{values_of, checkpoint_on, live_filesets}
+use Rattle.ck_model.specs.TableWorld.{values_of, checkpoint_on, live_filesets}
 use Rattle.ck_laws.specs.Laws.{IdsRise, StampsBelow, ContentBelow, NumbersBelow, Agree, EachTwo, TablesStand}
 use Rattle.ck_model.proofs.ValueLaws.{get-values_of, get-cells_on}
 use Rattle.ck_model.proofs.FilesetLaws.{all_found}

@@ -15,7 +15,7 @@ use Rattle.ck_model.specs.Cells.{Cells, content_at, is_directory, size_in}
 use Rattle.ck_model.specs.Walk.{file_at, directory_at, name_at, new_name_at}
 use Rattle.ck_model.specs.Changes.{with_node, without_file, without_directory, renamed}
 use Rattle.ck_model.specs.World.{World}
-use Rattle.ck_model.specs.Changing.{is_spent, has_names, made, removed, removed_directory, moved, overwritten, truncated}
+use Rattle.ck_model.specs.FileCalls.{is_spent, has_names, made, removed, removed_directory, moved, overwritten, truncated}
 use Rattle.ck_model.specs.Limits.{file_limit}
 use Rattle.ck_laws.specs.Tree.{IsGrown}
 use Rattle.ck_model.proofs.CellLaws.{tied-is}

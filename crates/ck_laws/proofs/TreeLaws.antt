@@ -15,11 +15,11 @@ use Rattle.ck_model.specs.declared.reply.Reply.TheVariants.{NoCkpt, NotData}
 use Rattle.ck_model.specs.Key.{key_cmp}
 use Rattle.ck_model.specs.Cells.{Cells, bytes_in, mark_of, marked, is_directory}
 use Rattle.ck_model.specs.Walk.{walk_from}
-use Rattle.ck_model.specs.Reading.{block_byte}
+use Rattle.ck_model.specs.Contents.{block_byte}
 use Rattle.ck_model.specs.Changes.{cell_of}
 use Rattle.ck_model.specs.World.{World, Checkpoint, root_cells, keeps_files, is_named, shown_by}
 use Rattle.ck_model.specs.Streams.{Texts}
-use Rattle.ck_model.specs.Freezing.{checkpoint_named, restored}
+use Rattle.ck_model.specs.CheckpointCalls.{checkpoint_named, restored}
 use Rattle.ck_model.specs.Step.{step}
 use Rattle.ck_model.specs.History.{Past, CallsBy, begun, created_id, past_after, past_of, IsLegalFrom}
 use Rattle.ck_laws.specs.Tree.{HasName, HasNode, IsGrown}

@@ -19,7 +19,7 @@ use Rattle.ck_model.specs.Rules.{KeyBelow}
 use Rattle.ck_model.specs.Changes.{cell_of}
 use Rattle.ck_model.specs.World.{World, Checkpoint, root_cells, keeps_files, is_named, shown_by}
 use Rattle.ck_model.specs.Streams.{Texts}
-use Rattle.ck_model.specs.Freezing.{checkpoint_named, restored}
+use Rattle.ck_model.specs.CheckpointCalls.{checkpoint_named, restored}
 use Rattle.ck_model.specs.Step.{step}
 use Rattle.ck_model.specs.History.{Past, CallsBy, begun, created_id, past_after, past_of, IsLegalNext, IsLegalFrom}
 use Rattle.ck_laws.specs.Laws.{StampsBelow, ContentBelow, NumbersBelow, Agree, EachTwo, IsWorld, WorldsBegin, CallsKeepWorlds, WorldsStay}

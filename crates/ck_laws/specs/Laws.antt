@@ -15,7 +15,7 @@ use Rattle.ck_model.specs.Cells.{Cells, Content, OfOneHistory}
 use Rattle.ck_model.specs.Table.{Table, IsTable}
 use Rattle.ck_model.specs.Rules.{KeyBelow, IsOrderly}
 use Rattle.ck_model.specs.Values.{Store}
-use Rattle.ck_model.specs.Standing.{world_on}
+use Rattle.ck_model.specs.TableWorld.{world_on}
 use Rattle.ck_model.specs.World.{World, Checkpoint, Mounts, empty_world, has_id, shown_by}
 use Rattle.ck_model.specs.Streams.{Texts, image, changed, applied}
 use Rattle.ck_model.specs.Step.{step}

@@ -4,7 +4,7 @@ use Rattle.std.specs.FinMap as map
 use Rattle.ck_model.specs.declared.key.Key.TheVariants.{Name, Node, Block}
 use Rattle.ck_model.specs.Cells.{Cells, content_at, named_node, is_directory_at, size_at}
 use Rattle.ck_model.specs.Walk.{walk}
-use Rattle.ck_model.specs.Reading.{file_byte}
+use Rattle.ck_model.specs.Contents.{file_byte}
 
 abbrev pub HasName : Cells → ℕ → List ℕ → Type 0
 HasName cells directory name = map.contains_key cells (Name directory name) ≡ true

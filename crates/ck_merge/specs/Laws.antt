@@ -9,7 +9,7 @@ use Rattle.ck_model.specs.Streams.{image, applied, changed as map_changes}
 use Rattle.ck_stream.specs.declared.stream.Full.{Full}
 use Rattle.ck_stream.specs.declared.stream.Changed.{Changed}
 use Rattle.ck_stream.specs.declared.stream.Stream.TheVariants as stream
-use Rattle.ck_stream.specs.Spelling.{text}
+use Rattle.ck_stream.specs.Written.{text}
 use Rattle.ck_stream.specs.Right.{IsFull, contents, changes}
 use Rattle.ck_stream.specs.Texts.{texts}
 use Rattle.ck_merge.specs.Merged.{merged}

@@ -28,7 +28,7 @@ use Rattle.ck_model.specs.Table.{Table, IsTable, column, newer, record_count}
 use Rattle.ck_model.specs.Chain.{first_entry, present, value_of, value_at, is_live, is_gone, is_live_data, keeps_data}
 use Rattle.ck_model.specs.Rules.{IsSound, IsOwn, first_holder, stamp_in}
 use Rattle.ck_model.specs.Values.{Store, cell_on, cells_on}
-use Rattle.ck_model.specs.Standing.{values_of, checkpoint_on, live_filesets, checkpoints_on, world_on, blocks_in, blocks_of, extent_count}
+use Rattle.ck_model.specs.TableWorld.{values_of, checkpoint_on, live_filesets, checkpoints_on, world_on, blocks_in, blocks_of, extent_count}
 use Rattle.ck_model.specs.Rows.{row_of, total, times}
 use Rattle.ck_model.specs.Placed.{Follow, NoneGone, ArePlaced, AllStripped}
 use Rattle.ck_model.proofs.CellLaws.{get-marked, differs-mark_of, differs-itself, contains_key-differences}

@@ -12,7 +12,7 @@ use Rattle.ck_model.specs.Key.{key_cmp, entry_cmp, key_cmp_total, entry_cmp_exac
 use Rattle.ck_model.specs.Table.{Table, column, newer}
 use Rattle.ck_model.specs.Chain.{first_entry, present, value_of, value_at}
 use Rattle.ck_model.specs.Values.{Store, Values, cell_on, cells_on}
-use Rattle.ck_model.specs.Standing.{keys_of, with_value, valued, values_of, is_among}
+use Rattle.ck_model.specs.TableWorld.{keys_of, with_value, valued, values_of, is_among}
 use Rattle.ck_model.proofs.CellLaws.{tied-is, equal, find-values}
 
 -- entries whose filesets and keys tie are one

@@ -9,7 +9,7 @@ use Rattle.ck_model.specs.declared.cell.Payload.{Payload}
 use Rattle.ck_model.specs.declared.cell.Payload.TheVariants.{To, File, Bytes}
 use Rattle.ck_model.specs.Key.{is_of, is_past}
 use Rattle.ck_model.specs.Cells.{Cells, size_at, with_cells}
-use Rattle.ck_model.specs.Reading.{block_byte}
+use Rattle.ck_model.specs.Contents.{block_byte}
 
 abbrev pub cell_of : ℕ → Payload → Cell
 cell_of stamp payload = record { stamp = stamp; payload = Some payload }

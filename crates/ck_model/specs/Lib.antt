@@ -6,7 +6,7 @@ pub mod Refusals
 pub mod Held
 pub mod Cells
 pub mod Walk
-pub mod Reading
+pub mod Contents
 pub mod Changes
 pub mod World
 pub mod Space
@@ -14,11 +14,11 @@ pub mod Table
 pub mod Chain
 pub mod Rules
 pub mod Values
-pub mod Standing
+pub mod TableWorld
 pub mod Streams
-pub mod Changing
-pub mod Freezing
-pub mod Reporting
+pub mod FileCalls
+pub mod CheckpointCalls
+pub mod ReadCalls
 pub mod Step
 pub mod History
 pub mod Rows

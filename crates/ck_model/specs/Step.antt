@@ -8,9 +8,9 @@ use Rattle.ck_model.specs.Refusals.{and_then}
 use Rattle.ck_model.specs.World.{World}
 use Rattle.ck_model.specs.Space.{fits, no_space, given_up, without_picks, new_block_count}
 use Rattle.ck_model.specs.Streams.{Texts}
-use Rattle.ck_model.specs.Changing.{changed_by}
-use Rattle.ck_model.specs.Freezing.{new_id, frozen_world, checkpoint_named, older_than, any_keeps, as_nodata, with_changed, dropped, with_flag, restored, mounted, dismounted}
-use Rattle.ck_model.specs.Reporting.{range_read, names_listed, status_of, listing_of, info_of, checkpoint_read, checkpoint_names, full_stream, changed_stream}
+use Rattle.ck_model.specs.FileCalls.{changed_by}
+use Rattle.ck_model.specs.CheckpointCalls.{new_id, frozen_world, checkpoint_named, older_than, any_keeps, as_nodata, with_changed, dropped, with_flag, restored, mounted, dismounted}
+use Rattle.ck_model.specs.ReadCalls.{range_read, names_listed, status_of, listing_of, info_of, checkpoint_read, checkpoint_names, full_stream, changed_stream}
 
 -- the reply, how many checkpoints were given up for room, and the next world
 pub record Outcome : Type 0 where

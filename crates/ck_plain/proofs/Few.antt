@@ -3,7 +3,7 @@ use Rattle.std.proofs.Common.{ℕ, suc, ◌≤◌, List, [], ◌∷◌, length, 
 use Rattle.std.specs.List.{filter_map, cons_option}
 use Rattle.std.specs.FinMap as map
 use Rattle.ck_model.specs.Cells.{Cells}
-use Rattle.ck_model.specs.Reading.{child_in, children}
+use Rattle.ck_model.specs.Contents.{child_in, children}
 
 few_more : {Y : Type 0} (o : Option Y) (ys : List Y) (n : ℕ) → length ys ≤ n → length (cons_option o ys) ≤ suc n
 few_more None ys n h = omega arith

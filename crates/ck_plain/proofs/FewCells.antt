@@ -20,7 +20,7 @@ use Rattle.ck_model.specs.Cells.{Cells, size_at, with_cells}
 use Rattle.ck_model.specs.Walk.{file_at, directory_at, name_at, new_name_at}
 use Rattle.ck_model.specs.Changes.{cell_of, with_node, without_file, without_directory, renamed, touched, block_after, grown_to, written, cut_at, cut_to, resized}
 use Rattle.ck_model.specs.World.{World}
-use Rattle.ck_model.specs.Changing.{is_spent, has_names, with_primary, made, removed, removed_directory, moved, overwritten, truncated, changed_by}
+use Rattle.ck_model.specs.FileCalls.{is_spent, has_names, with_primary, made, removed, removed_directory, moved, overwritten, truncated, changed_by}
 use Rattle.ck_model.specs.Limits.{file_limit}
 use Rattle.ck_model.proofs.SizeLaws.{len-retain_keys-le, len-insert-le, len-remove-le}
 

@@ -2,7 +2,7 @@ ghost use Rattle.std.specs.Prelude.{◌≡◌, ◌+◌, ◌*◌, ◌^◌, ◌<�
 ghost use Rattle.std.specs.Option.{option_copied};
 ghost use Rattle.ck_model.specs.declared.key.Key.TheVariants.{Block};
 ghost use Rattle.ck_model.specs.Cells.{content_at, bytes_in};
-ghost use Rattle.ck_model.specs.Reading.{block_byte};
+ghost use Rattle.ck_model.specs.Contents.{block_byte};
 ghost use Rattle.ck_model.specs.Changes.{byte_after, block_after, cut_block};
 
 use crate::PlainMap;

@@ -6,7 +6,7 @@ ghost use Rattle.ck_model.specs.Key.{key_cmp, is_of, is_past};
 ghost use Rattle.ck_model.specs.Cells.{marked};
 ghost use Rattle.ck_model.specs.Ordered.{Edits};
 
-use crate::marking::mark_blocks;
+use crate::marks::mark_blocks;
 use crate::ordered::search;
 use crate::retain::{retain_not_of, retain_not_past};
 use ck_model::{Cell, Key, NoMemory};

@@ -1,16 +1,16 @@
 ghost use Rattle.std.specs.Prelude.{◌≡◌, ◌≤◌, ◌<◌, ◌^◌, IfOk, replicate};
 ghost use Rattle.std.specs.List.{list_any};
 ghost use Rattle.ck_model.specs.Key.{is_name_in};
-ghost use Rattle.ck_model.specs.Changing.{is_spent, has_names, with_primary, made, removed, removed_directory, moved, overwritten, truncated, IsChanging, changed_by};
+ghost use Rattle.ck_model.specs.FileCalls.{is_spent, has_names, with_primary, made, removed, removed_directory, moved, overwritten, truncated, IsChanging, changed_by};
 ghost use Rattle.ck_model.specs.Limits.{file_limit};
 ghost use Rattle.ck_plain.specs.Plain.{world_of};
 ghost use Rattle.ck_plain.specs.Ranges.{HasStamps};
 ghost use Rattle.ck_plain.specs.Changed.{Answers, with_next};
 
 use crate::names::{renamed, with_node, without_directory, without_file};
-use crate::resizing::resized;
+use crate::sizes::resized;
 use crate::walk::{directory_at, file_at, name_at, new_name_at};
-use crate::writing::written;
+use crate::writes::written;
 use crate::{Plain, PlainMap};
 use ck_model::{Call, Cell, Counters, FILE_LIMIT, Key, NoMemory, Path, Payload, Reply};
 

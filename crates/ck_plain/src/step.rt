@@ -6,11 +6,11 @@ ghost use Rattle.ck_model.specs.Streams.{Texts};
 ghost use Rattle.ck_model.specs.Step.{with_room, changing, step};
 ghost use Rattle.ck_plain.specs.Plain.{world_of};
 ghost use Rattle.ck_plain.specs.Changed.{with_next};
-ghost use Rattle.ck_model.specs.Changing.{IsChanging, changed_by};
+ghost use Rattle.ck_model.specs.FileCalls.{IsChanging, changed_by};
 ghost use Rattle.ck_plain.specs.Outcome.{IsPlainCall, outcome_with, with_files};
 
-use crate::giving::{fits, give_up, no_space};
-use crate::reporting::{info_of, listing_of};
+use crate::given::{fits, give_up, no_space};
+use crate::reports::{info_of, listing_of};
 use crate::room::Room;
 use crate::{Answer, Next, Plain, PlainMap, changed, names_listed, range_read, status_of};
 use ck_model::{Call, Cell, Counters, FILE_LIMIT, Key, Limits, Mounts, NoMemory, Payload, Reply};

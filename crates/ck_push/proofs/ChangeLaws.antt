@@ -13,7 +13,7 @@ use Rattle.ck_model.specs.Table.{Table, IsTable, column, with_entry, record_coun
 use Rattle.ck_model.specs.Chain.{newest_live_of, seen, is_live}
 use Rattle.ck_model.specs.Rules.{IsOrderly, IsSound}
 use Rattle.ck_model.proofs.CaseLaws.{some_is, none_some}
-use Rattle.ck_chain.specs.Naming.{block_of, IsNamed}
+use Rattle.ck_chain.specs.Named.{block_of, IsNamed}
 use Rattle.ck_chain.specs.Changes.{key_of, value_after}
 use Rattle.ck_chain.proofs.ColumnLaws.{same_or_other, column-with_entry}
 use Rattle.ck_chain.proofs.PushedLaws.{entry_pushed}

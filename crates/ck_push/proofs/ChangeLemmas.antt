@@ -12,7 +12,7 @@ use Rattle.ck_model.specs.Chain.{is_covered, is_live, newest_live_of, keeps_data
 use Rattle.ck_model.specs.Rules.{IsOrderly, IsOwn, KeyBelow, HeldBelow, stamp_in}
 use Rattle.ck_model.proofs.CaseLaws.{some_is, some_same}
 use Rattle.ck_chain.specs.Kept.{pushed}
-use Rattle.ck_chain.specs.Naming.{block_of, IsNamed}
+use Rattle.ck_chain.specs.Named.{block_of, IsNamed}
 use Rattle.ck_chain.specs.Needless.{tidied}
 use Rattle.ck_chain.specs.Changes.{key_of, is_deletion, value_after}
 use Rattle.ck_chain.proofs.ReadLaws.{last_passes}

@@ -17,7 +17,7 @@ use Rattle.ck_model.specs.Rules.{IsOrderly, IsOwn, first_holder}
 use Rattle.ck_model.proofs.CaseLaws.{not_first, not_second, or_left}
 use Rattle.ck_chain.specs.Kept.{pushed}
 use Rattle.ck_chain.specs.Needless.{is_absent, says_nothing, is_needless, tidied}
-use Rattle.ck_chain.specs.Naming.{one_of}
+use Rattle.ck_chain.specs.Named.{one_of}
 use Rattle.ck_chain.specs.Changes.{key_of, value_after}
 use Rattle.ck_chain.proofs.ReadLaws.{each_above, last_passes, live_stands}
 use Rattle.ck_chain.proofs.CountLaws.{record_count-with_entry}

@@ -9,7 +9,7 @@ use Rattle.ck_model.specs.Chain.{is_covered, is_live, keeps_data, newest_live_of
 use Rattle.ck_model.specs.Rules.{IsOrderly, IsOwn, KeyBelow, HeldBelow, stamp_in, block_in}
 use Rattle.ck_model.proofs.CaseLaws.{some_same}
 use Rattle.ck_chain.specs.Kept.{pushed}
-use Rattle.ck_chain.specs.Naming.{IsNamed}
+use Rattle.ck_chain.specs.Named.{IsNamed}
 use Rattle.ck_chain.specs.Fits.{Fits}
 use Rattle.ck_chain.proofs.ReadLaws.{last_passes, live_stands}
 use Rattle.ck_chain.proofs.OrderlyLaws.{orderly_with, orderly_without, positive_id, still_stood, written_or_before}

@@ -9,7 +9,7 @@ use Rattle.ck_model.specs.Chain.{keeps_data, newest_live_of}
 use Rattle.ck_model.specs.Rules.{IsOrderly, block_in}
 use Rattle.ck_model.proofs.CaseLaws.{none_some}
 use Rattle.ck_chain.specs.Kept.{pushed}
-use Rattle.ck_chain.specs.Naming.{block_of, IsNamed}
+use Rattle.ck_chain.specs.Named.{block_of, IsNamed}
 use Rattle.ck_chain.proofs.ColumnLaws.{column-with_entry}
 use Rattle.ck_chain.proofs.PushedLaws.{block_pushed}
 use Rattle.ck_chain.proofs.NameLaws.{named_here, named_written, named_else, named_without, named_tidied, named_before_tidied}

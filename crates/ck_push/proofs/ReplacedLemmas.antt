@@ -4,7 +4,7 @@ use Rattle.std.proofs.lemmas.Bool.Decides.{nat_tests}
 use Rattle.ck_model.specs.declared.key.Key.{Key}
 use Rattle.ck_model.specs.declared.held.Held.{Held}
 use Rattle.ck_model.specs.Table.{Table, IsSized, column, with_entry, record_count, spare_count}
-use Rattle.ck_chain.specs.Naming.{one_of}
+use Rattle.ck_chain.specs.Named.{one_of}
 use Rattle.ck_chain.proofs.ColumnLaws.{column-with_entry, write_twice, write_swap}
 use Rattle.ck_chain.proofs.CountLaws.{record_count-with_entry}
 use Rattle.ck_push.specs.Changed.{with_push, replaced}

@@ -8,7 +8,7 @@ use Rattle.ck_model.specs.Held.{IsEntry, IsKey}
 use Rattle.ck_model.specs.Table.{Table, IsTable, column, record_count}
 use Rattle.ck_model.specs.Chain.{is_live, seen}
 use Rattle.ck_model.specs.Rules.{IsSound, KeyBelow, HeldBelow, stamp_in}
-use Rattle.ck_chain.specs.Naming.{block_of, IsNamed}
+use Rattle.ck_chain.specs.Named.{block_of, IsNamed}
 use Rattle.ck_chain.specs.Changes.{key_of, is_deletion, value_after}
 use Rattle.ck_push.specs.Changed.{changed, push_of}
 use Rattle.ck_push.specs.Growth.{gain, loss, gains, losses}

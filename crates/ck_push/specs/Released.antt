@@ -4,7 +4,7 @@ use Rattle.std.specs.Option.{option_map}
 use Rattle.ck_model.specs.declared.held.Held.{Held}
 use Rattle.ck_model.specs.declared.change.Freed.{Freed}
 use Rattle.ck_model.specs.Table.{Table}
-use Rattle.ck_chain.specs.Naming.{block_of, IsNamed}
+use Rattle.ck_chain.specs.Named.{block_of, IsNamed}
 
 -- the block of the primary's entry, unless that is pushed with its block
 abbrev pub unless_kept : Option ℕ → Option ℕ → Option ℕ

@@ -1,9 +1,9 @@
 //! Changes of the primary, which push what it held into the newest checkpoint, and what they take.
 #![tactic(auto)]
 
-mod changing;
-mod costing;
-mod pushing;
+mod copy_on_write;
+mod push;
+mod room;
 
-pub use changing::change;
-pub use costing::cost;
+pub use copy_on_write::change;
+pub use room::cost;

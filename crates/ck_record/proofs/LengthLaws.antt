@@ -6,7 +6,7 @@ use Rattle.ck_record.specs.declared.records.Record.{Record}
 use Rattle.ck_record.specs.Fields.{name_bytes, spelled}
 use Rattle.ck_record.specs.Record.{IsRecord, fields_of, spelling}
 use Rattle.ck_record.proofs.SpelledLemmas.{short_name}
-use Rattle.ck_record.proofs.ReadingLemmas.{is_fields}
+use Rattle.ck_record.proofs.FieldLemmas.{is_fields}
 
 long_spelled : (f : Fields) → length (name_bytes f.name) ≤ 40 → length (spelled f) ≡ 128
 unfolding spelled

@@ -1,4 +1,4 @@
 pub mod SpelledLemmas
-pub mod ReadingLemmas
+pub mod FieldLemmas
 pub mod RecordLaws
 pub mod LengthLaws

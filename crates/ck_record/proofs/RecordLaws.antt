@@ -7,9 +7,9 @@ use Rattle.ck_record.specs.declared.fields.Fields.{Fields}
 use Rattle.ck_record.specs.declared.records.Record.{Record}
 use Rattle.ck_record.specs.Fields.{IsFields, name_bytes, spelled}
 use Rattle.ck_record.specs.Record.{IsRecord, fields_of, spelling}
-use Rattle.ck_record.specs.Reading.{record_in}
+use Rattle.ck_record.specs.Candidates.{record_in}
 use Rattle.ck_record.proofs.SpelledLemmas.{Stands, found, short_name}
-use Rattle.ck_record.proofs.ReadingLemmas.{is_fields, record_in-fields_of}
+use Rattle.ck_record.proofs.FieldLemmas.{is_fields, record_in-fields_of}
 
 same_four : (x y : ℕ) → x < 2 ^ 32 → y < 2 ^ 32 → to_be_bytes w32 x ≡ to_be_bytes w32 y → x ≡ y
 same_four x y a b h = sym (from_be_bytes-to_be_bytes_4 x a) ∙ ap (from_be_bytes w32) h ∙ from_be_bytes-to_be_bytes_4 y b

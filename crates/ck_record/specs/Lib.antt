@@ -1,3 +1,3 @@
 pub mod Fields
 pub mod Record
-pub mod Reading
+pub mod Candidates

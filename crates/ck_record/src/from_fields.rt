@@ -5,7 +5,7 @@ ghost use Rattle.ck_model.specs.declared.held.Small.TheVariants.{To};
 ghost use Rattle.ck_model.specs.Held.{IsWord, IsStamp, IsKey, BelongsTo, IsEntry};
 ghost use Rattle.ck_record.specs.declared.records.Record.TheVariants as record_of;
 ghost use Rattle.ck_record.specs.Record.{IsRecord};
-ghost use Rattle.ck_record.specs.Reading.{counters_in, kind_in, named_fileset, fileset_in, named_in, small_in, node_in, extent_in, mark_in, absent_in, record_in, Takes};
+ghost use Rattle.ck_record.specs.Candidates.{counters_in, kind_in, named_fileset, fileset_in, named_in, small_in, node_in, extent_in, mark_in, absent_in, record_in, Takes};
 
 use crate::fields::Fields;
 use crate::numbers;

@@ -13,16 +13,16 @@ use Rattle.ck_model.specs.declared.reply.Reply.{Reply}
 use Rattle.ck_model.specs.declared.reply.Reply.TheVariants as reply
 use Rattle.ck_model.specs.declared.reply.SpaceOf.TheVariants.{Blocks, Records}
 use Rattle.ck_model.specs.Cells.{Cells, is_directory_at, size_at}
-use Rattle.ck_model.specs.Reading.{children}
+use Rattle.ck_model.specs.Contents.{children}
 use Rattle.ck_model.specs.Refusals.{and_then, refuse_if, or_refused}
 use Rattle.ck_model.specs.World.{World, Checkpoint, keeps_files, is_named, has_id}
 use Rattle.ck_model.specs.Walk.{walk, node_at, file_at, directory_at, name_at, new_name_at}
 use Rattle.ck_model.specs.Space.{fits, blocks_fit, held, records_in, no_space, given_up, without_picks, new_block_count}
 use Rattle.ck_model.specs.Streams.{Texts}
-use Rattle.ck_model.specs.Changing.{is_spent, has_names, made, removed, removed_directory, moved, overwritten, truncated}
+use Rattle.ck_model.specs.FileCalls.{is_spent, has_names, made, removed, removed_directory, moved, overwritten, truncated}
 use Rattle.ck_model.specs.Limits.{file_limit}
-use Rattle.ck_model.specs.Freezing.{frozen_world, new_id, checkpoint_named, older_than, any_keeps, dropped, with_flag, restored, mounted, mounted_id, dismounted, standing, mounted_checkpoint, with_data}
-use Rattle.ck_model.specs.Reporting.{range_read, names_listed, stat_reply, status_of, checkpoint_read, checkpoint_names, full_stream, changed_stream}
+use Rattle.ck_model.specs.CheckpointCalls.{frozen_world, new_id, checkpoint_named, older_than, any_keeps, dropped, with_flag, restored, mounted, mounted_id, dismounted, standing, mounted_checkpoint, with_data}
+use Rattle.ck_model.specs.ReadCalls.{range_read, names_listed, stat_reply, status_of, checkpoint_read, checkpoint_names, full_stream, changed_stream}
 use Rattle.ck_model.specs.Step.{Outcome, outcome_of, answered, done, with_room, changing, created, converted, step}
 
 -- whether a reply lists checkpoints, or names

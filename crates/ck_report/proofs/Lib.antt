@@ -1,6 +1,6 @@
 pub mod CallLemmas
-pub mod ListingLemmas
-pub mod Splitting
+pub mod ListLemmas
+pub mod Splits
 pub mod Forms
 pub mod ReplyLemmas
-pub mod Telling
+pub mod Lines

@@ -16,7 +16,7 @@ use Rattle.ck_model.specs.declared.reply.Reply.TheVariants as reply
 use Rattle.ck_model.specs.Name.{IsName, IsNameByte}
 use Rattle.ck_report.specs.Words.{child_words, state_word, keep_word, line_words, space_word, number_words, share_words, checkpoints_words, digest_in, counts_words, stream_words, reply_words}
 use Rattle.ck_report.specs.Printed.{IsNumber, IsProper, IsProperLine, IsProperListing, IsProperDirectory, printed_child, printed_reply}
-use Rattle.ck_report.proofs.Splitting.{Ends, split, IsDigit, number_first, no_digit, no_digit_above, first_digit, bytes_tell, digest_bytes, name_bytes, low_ends_name, slash_ends_name}
+use Rattle.ck_report.proofs.Splits.{Ends, split, IsDigit, number_first, no_digit, no_digit_above, first_digit, bytes_tell, digest_bytes, name_bytes, low_ends_name, slash_ends_name}
 use Rattle.ck_report.proofs.Forms.{Answers}
 
 -- names in directories

@@ -2,5 +2,5 @@ pub mod Words
 pub mod Transcript
 pub mod Status
 pub mod Places
-pub mod Listing
+pub mod List
 pub mod Printed

@@ -1,6 +1,6 @@
 ghost use Rattle.std.specs.Prelude.{◌≡◌, ◌≤◌, pos, ◌*ℤ◌, IfOk};
 ghost use Rattle.jiff_core.specs.DateTime.{civil_nanos};
-ghost use Rattle.ck_report.specs.Listing.{last_date, IsShown, IsDate};
+ghost use Rattle.ck_report.specs.List.{last_date, IsShown, IsDate};
 
 use crate::put::put;
 use ck_model::NoMemory;

@@ -1,5 +1,5 @@
 ghost use Rattle.std.specs.Prelude.{◌≡◌, ◌++◌, List, ℕ, OnOk, IfOk};
-ghost use Rattle.ck_report.specs.Listing.{listing_line, IsDate, IsListing};
+ghost use Rattle.ck_report.specs.List.{listing_line, IsDate, IsListing};
 
 use crate::date::date;
 use crate::put::{put, put_word};

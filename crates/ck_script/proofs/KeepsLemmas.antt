@@ -18,7 +18,7 @@ use Rattle.ck_script.specs.Limits.{are_within_limits, asked_by, streams_by, call
 use Rattle.ck_script.specs.Names.{HasValidName, HaveValidNames}
 use Rattle.ck_script.specs.Places.{HasPlaces, HavePlaces}
 use Rattle.ck_script.specs.Numbered.{IsNumbered, numbers_in}
-use Rattle.ck_script.specs.Reading.{Parsed, nothing_read, is_skipped, form_in, line_of, with_call, with_form, with_line, long_line, read_lines, read_script}
+use Rattle.ck_script.specs.Parsed.{Parsed, nothing_read, is_skipped, form_in, line_of, with_call, with_form, with_line, long_line, read_lines, read_script}
 use Rattle.ck_script.specs.Steps.{HasActor}
 use Rattle.ck_script.proofs.FormLemmas.{form_actor, built_found}
 use Rattle.ck_script.proofs.CallLemmas.{IsKept, HasKeptCall, form_found-kept}

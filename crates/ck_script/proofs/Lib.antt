@@ -5,5 +5,5 @@ pub mod CallLemmas
 pub mod KeepsLemmas
 pub mod TallyLemmas
 pub mod LinesLemmas
-pub mod ReadingLemmas
+pub mod ParsedLemmas
 pub mod ScriptLaws

@@ -7,5 +7,5 @@ pub mod Built
 pub mod Limits
 pub mod Names
 pub mod Places
-pub mod Reading
+pub mod Parsed
 pub mod Steps

@@ -9,7 +9,7 @@ use Rattle.ck_script.specs.declared.form.Form.TheVariants.{Called, Turned}
 use Rattle.ck_script.specs.declared.line.Line.{Line}
 use Rattle.ck_script.specs.Limits.{are_within_limits, asked_by, streams_by}
 use Rattle.ck_script.specs.Numbered.{numbers_in}
-use Rattle.ck_script.specs.Reading.{Parsed}
+use Rattle.ck_script.specs.Parsed.{Parsed}
 
 -- the outcome refuses just the line that the fault names; memory may always be refused
 abbrev pub IsFaultOf : Result Parsed ℕ → ParseFault → Type 0

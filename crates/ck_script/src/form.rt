@@ -3,7 +3,7 @@ ghost use Rattle.std.specs.Option.{option_and_then, option_map};
 ghost use Rattle.ck_script.specs.Arguments.{actor_of as actor_in};
 ghost use Rattle.ck_script.specs.Built.{is_built as built, is_built_call as built_call};
 ghost use Rattle.ck_script.specs.Grammar.{call_of as call_in, turn_of as turn_in, turns_of as turns_in, form_of as form_for};
-ghost use Rattle.ck_script.specs.Reading.{built_form as built_form_for};
+ghost use Rattle.ck_script.specs.Parsed.{built_form as built_form_for};
 ghost use Rattle.ck_script.specs.Refusal.{Answers};
 ghost use Rattle.ck_script.specs.Steps.{HasActor};
 ghost use Rattle.ck_script.specs.declared.form.Form.TheVariants as forms;

@@ -7,7 +7,7 @@ ghost use Rattle.ck_script.specs.Built.{is_built};
 ghost use Rattle.ck_script.specs.Names.{HaveValidNames};
 ghost use Rattle.ck_script.specs.Places.{HavePlaces};
 ghost use Rattle.ck_script.specs.declared.form.Form.TheVariants as forms;
-ghost use Rattle.ck_script.specs.Reading.{is_skipped as skips, long_line as long_line_of, nothing_read, with_line, read_lines, read_script};
+ghost use Rattle.ck_script.specs.Parsed.{is_skipped as skips, long_line as long_line_of, nothing_read, with_line, read_lines, read_script};
 ghost use Rattle.ck_script.specs.Steps.{IsFaultOf, IsRefusal, line_at};
 
 use crate::form::built_form;

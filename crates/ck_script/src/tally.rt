@@ -1,7 +1,7 @@
 ghost use Rattle.std.specs.Prelude.{◌≡◌, ◌+◌, ◌<◌, ◌≤◌, ◌++◌, [], ◌∷◌, Some, OnOk, IfErr, IsTrue, length};
 ghost use Rattle.ck_script.specs.Limits.{asked_by as bytes_asked_by, streams_by as streams_given_by, are_within_limits};
 ghost use Rattle.ck_script.specs.Numbered.{numbers_in};
-ghost use Rattle.ck_script.specs.Reading.{nothing_read, line_of, with_call, with_form};
+ghost use Rattle.ck_script.specs.Parsed.{nothing_read, line_of, with_call, with_form};
 ghost use Rattle.ck_script.specs.Steps.{HasActor, IsRefusal};
 ghost use Rattle.ck_script.specs.declared.fault.ParseFault.TheVariants as faults;
 
@@ -37,7 +37,7 @@ pub struct Tally {
 }
 
 impl Model for Tally {
-    ghost use Rattle.ck_script.specs.Reading.{Parsed};
+    ghost use Rattle.ck_script.specs.Parsed.{Parsed};
     ghost use Rattle.ck_script.specs.Steps.{IsTally};
 
     ghost Value = { Parsed };

@@ -15,7 +15,7 @@ use Rattle.ck_slots.specs.Arranged.{arranged, entry_of, entry_in, no_slot}
 use Rattle.ck_slots.specs.Cut.{front, stands_before}
 use Rattle.ck_slots.specs.Pieces.{offset, piece_at}
 use Rattle.ck_slots.proofs.ArrangedLemmas.{length-arranged, get_or-arranged}
-use Rattle.ck_slots.proofs.Cutting.{both_of, front_above, front_below, front_le, cut_falls}
+use Rattle.ck_slots.proofs.Cuts.{both_of, front_above, front_below, front_le, cut_falls}
 use Rattle.ck_slots.proofs.PieceLemmas.{offset-next, offset_inside, offset_last, number_at}
 
 -- ---- how many stand at the front of two lists that are joined

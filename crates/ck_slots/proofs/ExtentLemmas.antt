@@ -3,7 +3,7 @@ use Rattle.std.proofs.Common.{◌≡◌, ℕ, zero, suc, ◌+◌, List, [], ◌�
 use Rattle.std.specs.List.{slice_get}
 use Rattle.ck_model.specs.declared.key.Key.{Key}
 use Rattle.ck_model.specs.declared.held.Held.{Held}
-use Rattle.ck_model.specs.Standing.{blocks_in, blocks_of}
+use Rattle.ck_model.specs.TableWorld.{blocks_in, blocks_of}
 use Rattle.ck_slots.proofs.TableLemmas.{some_same, none_some}
 
 blocks_next : (es : List ((ℕ × Key) × Held)) (at : ℕ) (e : (ℕ × Key) × Held) → slice_get es at ≡ Some e → blocks_of (take (suc at) es) ≡ blocks_of (take at es) ++ blocks_in e.1

@@ -17,7 +17,7 @@ use Rattle.ck_log.proofs.FirstSlotLaws.{slot_0-first_block, slot_1-first_block, 
 use Rattle.ck_area.specs.Area.{AreSlots, new_table, written_as}
 use Rattle.ck_area.proofs.NewTableLaws.{new_entries, new_filesets, new_table_within, new_count}
 use Rattle.ck_slots.specs.Written.{record_in, IsSpelled, AreSpelled}
-use Rattle.ck_slots.proofs.SpellingLemmas.{entry_slot, free_slot, spelled_slots}
+use Rattle.ck_slots.proofs.WrittenTexts.{entry_slot, free_slot, spelled_slots}
 
 -- ---- the three spellings
 

@@ -11,7 +11,7 @@ use Rattle.ck_slots.specs.declared.entries.Entries.{Entries as Arrangement}
 use Rattle.ck_slots.specs.Entries.{entries_in}
 use Rattle.ck_slots.specs.Recorded.{filesets_of}
 use Rattle.ck_slots.specs.Lawful.{table_of}
-use Rattle.ck_slots.proofs.BuildingLemmas.{same_table}
+use Rattle.ck_slots.proofs.MapLemmas.{same_table}
 
 -- entries that were empty, after the root was put
 pub table_of-root : (old new : Arrangement) (files : List (ℕ × Fileset)) (blocks other records : ℕ) → entries_in new ≡ map.insert (entries_in old) (0, Node 0) (Plain 0 Dir) → entries_in old ≡ map.empty → files ≡ [] → blocks ≡ other → new.limit ≡ old.limit → old.limit ≡ records

@@ -11,7 +11,7 @@ use Rattle.ck_model.specs.declared.checkpoint.Fileset.{Fileset}
 use Rattle.ck_model.specs.Ordered.{place_of}
 use Rattle.ck_slots.specs.Cut.{front}
 use Rattle.ck_slots.specs.Recorded.{ids_behind}
-use Rattle.ck_slots.proofs.Cutting.{both_of, below_at, Falls}
+use Rattle.ck_slots.proofs.Cuts.{both_of, below_at, Falls}
 
 module _ {K X : Type 0} (R : K → K → Ordering) (test : K → Bool) (falls : Falls R test) where
   at_head : (e : K × X) (es : List (K × X)) (j : ℕ) (d : K × X) → T (is_sorted R (e ∷ es)) → j < suc (length es) → test (get_or (e ∷ es) j d).0 ≡ true → test e.0 ≡ true

@@ -7,7 +7,7 @@ use Rattle.ck_model.specs.Table.{Entries}
 use Rattle.ck_slots.specs.declared.entries.Entries.{Entries as Arrangement}
 use Rattle.ck_slots.specs.Arranged.{arranged, entries_of}
 use Rattle.ck_slots.specs.Order.{numbers_in}
-use Rattle.ck_slots.specs.Following.{keys_behind}
+use Rattle.ck_slots.specs.NextKey.{keys_behind}
 
 -- as a list in their order
 abbrev pub listed_in : Arrangement → List ((ℕ × Key) × Held)

@@ -4,7 +4,7 @@ use Rattle.std.specs.FinMap as map
 use Rattle.ck_model.specs.Table.{Table}
 use Rattle.ck_model.specs.World.{empty_world}
 use Rattle.ck_model.specs.Values.{Store}
-use Rattle.ck_model.specs.Standing.{world_on}
+use Rattle.ck_model.specs.TableWorld.{world_on}
 use Rattle.ck_model.specs.Limits.{checkpoint_limit}
 
 -- over any data blocks it stands for the empty world

@@ -3,7 +3,7 @@ pub mod Pieces
 pub mod Order
 pub mod Cut
 pub mod Entries
-pub mod Following
+pub mod NextKey
 pub mod Recorded
 pub mod Lawful
 pub mod Slots
@@ -11,4 +11,4 @@ pub mod Formatted
 pub mod Written
 pub mod Committed
 pub mod Opened
-pub mod Building
+pub mod Maps

@@ -8,8 +8,8 @@ use Rattle.ck_area.specs.Area.{Area, Blocks, AreSlots, table_of}
 use Rattle.ck_area.specs.Damage.{damage, is_unbuilt, is_unbuilt_form}
 use Rattle.ck_model.specs.declared.checkpoint.Fileset.{Fileset}
 use Rattle.std.specs.FinMap as map
-use Rattle.ck_slots.specs.declared.opening.OpenSlots.{OpenSlots}
-use Rattle.ck_slots.specs.declared.opening.OpenSlots.TheVariants as open_slots
+use Rattle.ck_slots.specs.declared.opened.OpenSlots.{OpenSlots}
+use Rattle.ck_slots.specs.declared.opened.OpenSlots.TheVariants as open_slots
 
 -- The slots were read from as many blocks as a table has: from those of the region's area, where the device tells.
 pub record AreReadFrom (layout : Layout) (m : Meaning) (area : Area) : Type 0 where

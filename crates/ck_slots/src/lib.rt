@@ -2,16 +2,16 @@
 //! device.
 #![tactic(auto)]
 
-mod building;
 mod entries;
 mod filesets;
-mod opening;
+mod maps;
+mod opened;
 mod order;
 mod piece;
 mod search;
 mod slot;
 mod table;
-mod writing;
+mod written;
 
-pub use opening::OpenSlots;
+pub use opened::OpenSlots;
 pub use table::{CommitFault, Slots};

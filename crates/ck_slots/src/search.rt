@@ -6,7 +6,7 @@ ghost use Rattle.ck_model.specs.Key.{entry_cmp};
 ghost use Rattle.ck_model.specs.Ordered.{IsFoundAt, IsGapAt};
 ghost use Rattle.ck_slots.specs.Arranged.{arranged};
 ghost use Rattle.ck_slots.specs.Cut.{front, stands_before, cut_behind};
-ghost use Rattle.ck_slots.specs.Following.{keys_behind};
+ghost use Rattle.ck_slots.specs.NextKey.{keys_behind};
 ghost use Rattle.ck_slots.specs.Order.{numbers_in, index_in};
 ghost use Rattle.ck_slots.specs.Pieces.{offset, piece_at, IsPlace, IsTaken};
 

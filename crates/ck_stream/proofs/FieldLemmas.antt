@@ -6,7 +6,7 @@ use Rattle.std.proofs.lemmas.List.{take_at, drop_at, take-append-drop, length-ap
 use Rattle.std.proofs.lemmas.Nat.{be_bytes_4, be_bytes_8, from_be_bytes-to_be_bytes_4, from_be_bytes-to_be_bytes_8}
 use Rattle.ck_stream.specs.declared.fault.Flaw.{Flaw}
 use Rattle.ck_stream.specs.declared.fault.Flaw.TheVariants as flaw
-use Rattle.ck_stream.specs.Reading.{◌>>=◌, number_at, run_at}
+use Rattle.ck_stream.specs.Parsed.{◌>>=◌, number_at, run_at}
 
 abbrev pub IsBytes : List ℕ → Type 0
 IsBytes bytes = (i : ℕ) → get_or bytes i 0 < 256

@@ -11,8 +11,8 @@ use Rattle.ck_stream.specs.declared.fault.Flaw.{Flaw}
 use Rattle.ck_stream.specs.declared.fault.Flaw.TheVariants as flaw
 use Rattle.ck_stream.specs.declared.tag.Header.{Header}
 use Rattle.ck_stream.specs.declared.tag.Header.TheVariants as header
-use Rattle.ck_stream.specs.Spelling.{full_magic, changed_magic, header_text}
-use Rattle.ck_stream.specs.Reading.{◌>>=◌, number_at, run_at, id_in, id_at, full_header_at, later_in, changed_header_at, magic_in, header_at, made, count_in, end_at}
+use Rattle.ck_stream.specs.Written.{full_magic, changed_magic, header_text}
+use Rattle.ck_stream.specs.Parsed.{◌>>=◌, number_at, run_at, id_in, id_at, full_header_at, later_in, changed_header_at, magic_in, header_at, made, count_in, end_at}
 use Rattle.ck_stream.proofs.FieldLemmas.{IsBytes, bind_ok, passed, met, done, ok_is, Takes, Takes-then, word_takes, word_again, long_takes, long_again, run_takes, run_again}
 
 abbrev pub IsHeader : Header → Type 0

@@ -16,9 +16,9 @@ use Rattle.ck_stream.specs.declared.item.Item.{Item}
 use Rattle.ck_stream.specs.declared.item.Item.TheVariants.{Put, Removed}
 use Rattle.ck_stream.specs.declared.fault.Flaw.{Flaw}
 use Rattle.ck_stream.specs.declared.fault.StreamFault.{StreamFault}
-use Rattle.ck_stream.specs.Spelling.{item_text, items_text}
+use Rattle.ck_stream.specs.Written.{item_text, items_text}
 use Rattle.ck_stream.specs.Right.{key_of, change_of, changes, IsItem, IsPut}
-use Rattle.ck_stream.specs.Reading.{◌>>=◌, located, follows, record_at, items_at}
+use Rattle.ck_stream.specs.Parsed.{◌>>=◌, located, follows, record_at, items_at}
 use Rattle.ck_stream.proofs.FieldLemmas.{IsBytes, IsBytes-rest, bind_ok, Takes, Takes-then}
 use Rattle.ck_stream.proofs.RecordLemmas.{number_of, tag_of, record_takes, record_again}
 use Rattle.ck_stream.proofs.Loop.{one_more}

@@ -10,8 +10,8 @@ use Rattle.ck_model.specs.Name.{IsFileName}
 use Rattle.ck_stream.specs.declared.fault.Flaw.TheVariants as flaw
 use Rattle.ck_stream.specs.declared.tag.Tag.{Tag}
 use Rattle.ck_stream.specs.declared.tag.Tag.TheVariants as tag
-use Rattle.ck_stream.specs.Spelling.{key_text}
-use Rattle.ck_stream.specs.Reading.{◌>>=◌, number_at, run_at, is_file_name, counted_at, file_name_in, file_name_at, name_at, node_at, index_in, index_at, block_at, key_at}
+use Rattle.ck_stream.specs.Written.{key_text}
+use Rattle.ck_stream.specs.Parsed.{◌>>=◌, number_at, run_at, is_file_name, counted_at, file_name_in, file_name_at, name_at, node_at, index_in, index_at, block_at, key_at}
 use Rattle.ck_stream.proofs.Names.{file_name-Decides}
 use Rattle.ck_stream.proofs.FieldLemmas.{IsBytes, IsBytes-rest, bind_ok, passed, met, ok_is, Takes, Takes-then, NumberTaken, word_takes, word_again, run_takes, run_again}
 

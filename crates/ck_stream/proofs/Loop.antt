@@ -8,7 +8,7 @@ use Rattle.ck_stream.specs.declared.fault.Flaw.TheVariants as flaw
 use Rattle.ck_stream.specs.declared.fault.StreamFault.{StreamFault}
 use Rattle.ck_stream.specs.declared.fault.StreamFault.TheVariants as fault
 use Rattle.ck_stream.specs.Right.{key_of}
-use Rattle.ck_stream.specs.Reading.{◌>>=◌, HasFlaw, HasFault, fault_at, located, record_at, items_at}
+use Rattle.ck_stream.specs.Parsed.{◌>>=◌, HasFlaw, HasFault, fault_at, located, record_at, items_at}
 
 abbrev pub Items : Type 0
 Items = Result (List Item × List ℕ) StreamFault

@@ -6,7 +6,7 @@ use Rattle.std.specs.List.{list_all}
 use Rattle.std.specs.Cmp.Lexicographic.{bytes_decides}
 use Rattle.std.proofs.lemmas.Bool.Decides.{nat_tests, same_from_decides, Decides-eqb, Decides-not, Decides-and, Decides-like, Decides-by_and}
 use Rattle.ck_model.specs.Name.{IsName, IsNameByte, IsFileName}
-use Rattle.ck_stream.specs.Reading.{is_name_byte, is_file_name}
+use Rattle.ck_stream.specs.Parsed.{is_name_byte, is_file_name}
 
 pub Decides-le : (a b : ℕ) → Decides (nat_le a b) (a ≤ b)
 Decides-le a b = (λ h. grind (arith, nat_tests), λ h. grind (arith, nat_tests))

@@ -15,9 +15,9 @@ use Rattle.ck_stream.specs.declared.fault.Flaw.{Flaw}
 use Rattle.ck_stream.specs.declared.fault.Flaw.TheVariants as flaw
 use Rattle.ck_stream.specs.declared.tag.Tag.{Tag}
 use Rattle.ck_stream.specs.declared.tag.Tag.TheVariants as tag
-use Rattle.ck_stream.specs.Spelling.{key_text, payload_text, item_text}
+use Rattle.ck_stream.specs.Written.{key_text, payload_text, item_text}
 use Rattle.ck_stream.specs.Right.{key_of, IsItem, IsPut}
-use Rattle.ck_stream.specs.Reading.{◌>>=◌, number_at, run_at, tag_at, key_at, named_at, size_in, size_at, file_at, bytes_at, item_at, follows, item_in, record_at}
+use Rattle.ck_stream.specs.Parsed.{◌>>=◌, number_at, run_at, tag_at, key_at, named_at, size_in, size_at, file_at, bytes_at, item_at, follows, item_in, record_at}
 use Rattle.ck_stream.proofs.Names.{Decides-le}
 use Rattle.ck_stream.proofs.FieldLemmas.{IsBytes, bind_ok, met, done, ok_is, Takes, Takes-then, NumberTaken, word_takes, word_again, long_takes, long_again, run_takes, run_again}
 use Rattle.ck_stream.proofs.KeyLemmas.{kind_of, kind_for, key_takes, name_again, node_again, block_again}

@@ -12,7 +12,7 @@ use Rattle.ck_stream.specs.declared.tag.Header.{Header}
 use Rattle.ck_stream.specs.declared.tag.Header.TheVariants as header
 use Rattle.ck_stream.specs.declared.stream.Stream.{Stream}
 use Rattle.ck_stream.specs.declared.stream.Summary.{Summary}
-use Rattle.ck_stream.specs.Reading.{◌>>=◌, located, header_at, items_at, end_at, is_full, made, signed, digest_in, stream_at}
+use Rattle.ck_stream.specs.Parsed.{◌>>=◌, located, header_at, items_at, end_at, is_full, made, signed, digest_in, stream_at}
 use Rattle.ck_stream.specs.Right.{key_of}
 use Rattle.ck_stream.specs.SeenKey.{keyed}
 use Rattle.ck_stream.specs.Seen.{summary_of, TellsOf, seen, counted, seen_at}

@@ -14,9 +14,9 @@ use Rattle.ck_stream.specs.declared.tag.Header.{Header}
 use Rattle.ck_stream.specs.declared.tag.Header.TheVariants as header
 use Rattle.ck_stream.specs.declared.stream.Stream.{Stream}
 use Rattle.ck_stream.specs.declared.stream.Stream.TheVariants as stream
-use Rattle.ck_stream.specs.Spelling.{header_text, items_text, end_text, body, text, StandsIn}
+use Rattle.ck_stream.specs.Written.{header_text, items_text, end_text, body, text, StandsIn}
 use Rattle.ck_stream.specs.Right.{IsPut, AreItems, IsStream}
-use Rattle.ck_stream.specs.Reading.{◌>>=◌, located, header_at, items_at, is_full, made, end_at, signed, digest_in, stream_at, Gives}
+use Rattle.ck_stream.specs.Parsed.{◌>>=◌, located, header_at, items_at, is_full, made, end_at, signed, digest_in, stream_at, Gives}
 use Rattle.ck_stream.proofs.FieldLemmas.{IsBytes, IsBytes-drop, bind_ok, met, Takes-then}
 use Rattle.ck_stream.proofs.ItemsLaws.{located_ok, got, items_take, few_items, items_again}
 use Rattle.ck_stream.proofs.HeaderLemmas.{IsHeader, header_takes, header_again, end_takes, end_again}

@@ -10,7 +10,7 @@ use Rattle.ck_stream.specs.declared.item.Item.TheVariants.{Put, Removed}
 use Rattle.ck_stream.specs.declared.stream.Full.{Full}
 use Rattle.ck_stream.specs.declared.stream.Changed.{Changed}
 use Rattle.ck_stream.specs.declared.stream.Stream.TheVariants as stream
-use Rattle.ck_stream.specs.Spelling.{text}
+use Rattle.ck_stream.specs.Written.{text}
 use Rattle.ck_stream.specs.Right.{IsPut, IsFull, contents, changes}
 use Rattle.ck_stream.specs.Texts.{item_for, texts}
 

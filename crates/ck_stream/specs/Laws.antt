@@ -6,7 +6,7 @@ use Rattle.ck_stream.specs.declared.stream.Full.{Full}
 use Rattle.ck_stream.specs.declared.stream.Changed.{Changed}
 use Rattle.ck_stream.specs.declared.stream.Stream.{Stream}
 use Rattle.ck_stream.specs.declared.stream.Stream.TheVariants as stream
-use Rattle.ck_stream.specs.Spelling.{text}
+use Rattle.ck_stream.specs.Written.{text}
 use Rattle.ck_stream.specs.Right.{IsFull, IsStream, contents, changes}
 use Rattle.ck_stream.specs.Texts.{texts}
 

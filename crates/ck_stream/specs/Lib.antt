@@ -1,6 +1,6 @@
-pub mod Spelling
+pub mod Written
 pub mod Right
-pub mod Reading
+pub mod Parsed
 pub mod SeenKey
 pub mod Seen
 pub mod ByKey

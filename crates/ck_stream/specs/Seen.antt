@@ -7,9 +7,9 @@ use Rattle.ck_stream.specs.declared.tag.Header.TheVariants as header
 use Rattle.ck_stream.specs.declared.stream.Stream.{Stream}
 use Rattle.ck_stream.specs.declared.stream.Stream.TheVariants as stream
 use Rattle.ck_stream.specs.declared.stream.Summary.{Summary}
-use Rattle.ck_stream.specs.Spelling.{text, StandsIn}
+use Rattle.ck_stream.specs.Written.{text, StandsIn}
 use Rattle.ck_stream.specs.Right.{IsStream}
-use Rattle.ck_stream.specs.Reading.{◌>>=◌, located, header_at, items_at, end_at, is_full, signed, digest_in}
+use Rattle.ck_stream.specs.Parsed.{◌>>=◌, located, header_at, items_at, end_at, is_full, signed, digest_in}
 
 abbrev pub summary_of : Stream → Summary
 summary_of (stream.Full full) = record { header = header.Full full.id; records = length full.items }

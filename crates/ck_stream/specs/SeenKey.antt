@@ -7,7 +7,7 @@ use Rattle.ck_stream.specs.declared.fault.Flaw.{Flaw}
 use Rattle.ck_stream.specs.declared.seen.SeenKey.{SeenKey}
 use Rattle.ck_stream.specs.declared.seen.SeenKey.TheVariants as seen
 use Rattle.ck_stream.specs.Right.{key_of}
-use Rattle.ck_stream.specs.Reading.{◌>>=◌}
+use Rattle.ck_stream.specs.Parsed.{◌>>=◌}
 
 -- the key that stands there
 abbrev pub key_seen : SeenKey → Key

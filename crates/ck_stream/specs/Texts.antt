@@ -6,7 +6,7 @@ use Rattle.ck_model.specs.Streams.{Texts}
 use Rattle.ck_stream.specs.declared.item.Item.{Item}
 use Rattle.ck_stream.specs.declared.item.Item.TheVariants.{Put, Removed}
 use Rattle.ck_stream.specs.declared.stream.Stream.TheVariants as stream
-use Rattle.ck_stream.specs.Spelling.{text}
+use Rattle.ck_stream.specs.Written.{text}
 
 -- the record of what a key has; a mark has no bytes, and no data checkpoint holds one
 abbrev pub item_for : Key → Content → Item

@@ -1,6 +1,6 @@
 ghost use Rattle.std.specs.Prelude.{◌≡◌, ◌≤◌, Some, None, IfOk, if◌then◌else◌, length};
 ghost use Rattle.std.specs.Int.{w32, w64};
-ghost use Rattle.ck_stream.specs.Reading.{Reads, Finds, number_at, run_at, counted_at, is_file_name, file_name_at, index_at, size_at};
+ghost use Rattle.ck_stream.specs.Parsed.{Reads, Finds, number_at, run_at, counted_at, is_file_name, file_name_at, index_at, size_at};
 
 use crate::fault::Flaw;
 use ck_model::NameBytes;

@@ -1,5 +1,5 @@
 ghost use Rattle.std.specs.Prelude.{◌≡◌};
-ghost use Rattle.ck_stream.specs.Reading.{Finds, id_at, full_header_at, changed_header_at, header_at, is_full, made};
+ghost use Rattle.ck_stream.specs.Parsed.{Finds, id_at, full_header_at, changed_header_at, header_at, is_full, made};
 
 use crate::fault::Flaw;
 use crate::fields::{run_of, u32_of};

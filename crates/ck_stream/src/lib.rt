@@ -1,7 +1,7 @@
 //! Backup streams: what a checkpoint holds, or what changed between two, as bytes.
 #![tactic(auto)]
 
-mod applying;
+mod applied;
 mod base;
 mod fault;
 mod fields;
@@ -9,22 +9,22 @@ mod header;
 mod item;
 mod laws;
 mod order;
-mod passing;
-mod reading;
+mod parsed;
+mod passed;
 mod records;
 mod seen;
 mod stream;
+mod summary;
 mod tag;
-mod verifying;
-mod writing;
+mod written;
 
-pub use applying::apply;
+pub use applied::apply;
 pub use base::Base;
 pub use fault::{ApplyFault, StreamFault};
 pub use item::{Item, Items};
 pub use laws::{backups_apply, none_begins_another};
-pub use reading::read_stream;
+pub use parsed::read_stream;
 pub use stream::{Changed, Full, Stream, Summary};
+pub use summary::verify_stream;
 pub use tag::Header;
-pub use verifying::verify_stream;
-pub use writing::{write_changed, write_full};
+pub use written::{write_changed, write_full};

@@ -1,5 +1,5 @@
 ghost use Rattle.std.specs.Prelude.{◌≡◌, None};
-ghost use Rattle.ck_stream.specs.Reading.{Reads, tag_at, name_at, node_at, block_at, key_at, named_at, file_at, bytes_at, item_at, follows, item_in, record_at};
+ghost use Rattle.ck_stream.specs.Parsed.{Reads, tag_at, name_at, node_at, block_at, key_at, named_at, file_at, bytes_at, item_at, follows, item_in, record_at};
 
 use crate::Item;
 use crate::fault::Flaw;

@@ -17,8 +17,8 @@ use Rattle.ck_model.specs.Table.{Table, IsTable, column, newer, record_count}
 use Rattle.ck_model.specs.Chain.{first_entry, present, value_of, is_live, is_gone, live_ids, is_live_data, seen}
 use Rattle.ck_model.specs.Rules.{IsOrderly, IsSound, IsNeeded}
 use Rattle.ck_table.specs.Names.{is_named, id_named}
-use Rattle.ck_table.specs.Adding.{new_id, with_added}
-use Rattle.ck_table.specs.declared.adding.AddFault.TheVariants.{Exists, TooMany, Spent}
+use Rattle.ck_table.specs.Added.{new_id, with_added}
+use Rattle.ck_table.specs.declared.added.AddFault.TheVariants.{Exists, TooMany, Spent}
 use Rattle.ck_table.proofs.Ids.{get-recorded, get-recorded_same, still_there, keys-insert_last, newer-has}
 use Rattle.ck_table.proofs.NameLemmas.{unnamed}
 use Rattle.ck_table.proofs.Without.{IsWithout, newer-without, holder-without, keeps-without, seen-without, get-without, filter-others}

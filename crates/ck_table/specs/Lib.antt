@@ -1,3 +1,3 @@
 pub mod Names
-pub mod Adding
-pub mod Leaving
+pub mod Added
+pub mod Gone

@@ -2,10 +2,10 @@
 //! leaves. Generic over the table.
 #![tactic(auto)]
 
-mod adding;
-mod leaving;
-mod listing;
+mod added;
+mod gone;
+mod lookup;
 
-pub use adding::{AddFault, add, new_id};
-pub use leaving::{mark_gone, unlink};
-pub use listing::{count_live, find, live};
+pub use added::{AddFault, add, new_id};
+pub use gone::{mark_gone, unlink};
+pub use lookup::{count_live, find, live};

@@ -17,19 +17,19 @@ use Rattle.ck_model.specs.Key.{key_cmp, key_cmp_total, key_cmp_exact, is_name_in
 use Rattle.ck_model.specs.Held.{IsKey}
 use Rattle.ck_model.specs.Name.{IsName}
 use Rattle.ck_model.specs.Cells.{Cells, named_node, is_directory_at}
-use Rattle.ck_model.specs.Changing.{has_names}
-use Rattle.ck_model.specs.Reading.{child_in, children}
+use Rattle.ck_model.specs.FileCalls.{has_names}
+use Rattle.ck_model.specs.Contents.{child_in, children}
 use Rattle.ck_model.specs.Table.{Table, IsTable}
 use Rattle.ck_model.specs.Chain.{value_at}
 use Rattle.ck_model.proofs.CellLaws.{tied-is}
 use Rattle.ck_model.proofs.FilesetLaws.{all_found}
 use Rattle.ck_model.proofs.CaseLaws.{true_or_false}
-use Rattle.ck_chain.specs.Following.{is_before, IsNext, is_behind}
+use Rattle.ck_chain.specs.Order.{is_before, IsNext, is_behind}
 use Rattle.ck_chain.proofs.KeyOrderLaws.{same_or_before}
-use Rattle.ck_tree.specs.Listing.{child_at, least_name}
-use Rattle.ck_tree.specs.Standing.{StandsFor}
-use Rattle.ck_tree.proofs.StandingLaws.{value_key}
-use Rattle.ck_tree.proofs.ListingLemmas.{left, left_next, none_before, none_left, Skips}
+use Rattle.ck_tree.specs.Directory.{child_at, least_name}
+use Rattle.ck_tree.specs.Map.{StandsFor}
+use Rattle.ck_tree.proofs.MapLaws.{value_key}
+use Rattle.ck_tree.proofs.DirectoryLemmas.{left, left_next, none_before, none_left, Skips}
 
 -- no name is before the least one
 least_of : (name : List ℕ) → IsName name → is_lt (slice_cmp nat_cmp name least_name) ≡ false

@@ -19,20 +19,20 @@ use Rattle.ck_model.specs.Cells.{Cells}
 use Rattle.ck_model.specs.Changes.{without_file}
 use Rattle.ck_model.specs.Table.{Table, IsSized, column, keys_in}
 use Rattle.ck_model.specs.Chain.{present}
-use Rattle.ck_model.specs.Standing.{is_among}
+use Rattle.ck_model.specs.TableWorld.{is_among}
 use Rattle.ck_model.specs.Rows.{row_of}
 use Rattle.ck_model.proofs.CellLaws.{get-retain_keys}
 use Rattle.ck_model.proofs.FilesetLaws.{all_found}
 use Rattle.ck_model.proofs.RowLaws.{find-row_of, is_sorted-row_of}
 use Rattle.ck_model.proofs.CaseLaws.{head_of}
 use Rattle.ck_chain.specs.Changes.{deletions_first, key_of}
-use Rattle.ck_chain.specs.Following.{is_behind}
+use Rattle.ck_chain.specs.Order.{is_behind}
 use Rattle.ck_chain.proofs.KeyOrderLaws.{behind-itself}
-use Rattle.ck_chain.proofs.FollowingLaws.{keys-row, filter-keys, among-passing}
+use Rattle.ck_chain.proofs.OrderLaws.{keys-row, filter-keys, among-passing}
 use Rattle.ck_tree.specs.Plan.{with_changes, Differ}
-use Rattle.ck_tree.specs.Removing.{is_block_from, blocks_from, deletions, file_keys}
-use Rattle.ck_tree.specs.Standing.{StandsFor}
-use Rattle.ck_tree.proofs.ListingLemmas.{true_of}
+use Rattle.ck_tree.specs.Deletions.{is_block_from, blocks_from, deletions, file_keys}
+use Rattle.ck_tree.specs.Map.{StandsFor}
+use Rattle.ck_tree.proofs.DirectoryLemmas.{true_of}
 
 -- ---- the map
 

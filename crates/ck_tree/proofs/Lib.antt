@@ -1,10 +1,10 @@
-pub mod Asking
-pub mod StandingLaws
-pub mod ListingLemmas
+pub mod Questions
+pub mod MapLaws
+pub mod DirectoryLemmas
 pub mod ChildrenLemmas
-pub mod RemovingLemmas
+pub mod RemovalLemmas
 pub mod PathLemmas
 pub mod DeletionLemmas
-pub mod ResizingLemmas
-pub mod WritingLemmas
+pub mod ResizeLemmas
+pub mod WriteLemmas
 pub mod PlanLemmas

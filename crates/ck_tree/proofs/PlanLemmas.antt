@@ -23,26 +23,26 @@ use Rattle.ck_model.specs.Path.{IsPath}
 use Rattle.ck_model.specs.Held.{IsKey, IsWord, IsEntry, IsStamp, BelongsTo}
 use Rattle.ck_model.specs.Cells.{Cells, size_at}
 use Rattle.ck_model.specs.Changes.{touched, with_node}
-use Rattle.ck_model.specs.Changing.{with_primary, has_names, is_spent}
+use Rattle.ck_model.specs.FileCalls.{with_primary, has_names, is_spent}
 use Rattle.ck_model.specs.Limits.{file_limit}
 use Rattle.ck_model.specs.Rules.{IsOrderly, KeyBelow, SmallBelow}
 use Rattle.ck_model.specs.Table.{Table, IsTable, IsSized, column}
 use Rattle.ck_model.specs.Chain.{present, value_at}
 use Rattle.ck_model.specs.Values.{cells_on}
-use Rattle.ck_model.specs.Standing.{values_of}
+use Rattle.ck_model.specs.TableWorld.{values_of}
 use Rattle.ck_model.specs.Walk.{node_at, file_at, directory_at, name_at, new_name_at}
 use Rattle.ck_model.specs.World.{World}
 use Rattle.ck_chain.specs.Changes.{key_of}
 use Rattle.ck_tree.specs.declared.fault.TreeFault.{TreeFault}
-use Rattle.ck_tree.specs.Removing.{is_block_from, blocks_from, deletions, file_keys}
-use Rattle.ck_tree.specs.Resizing.{first_past, cut_write, cut_changes, size_put, size_changes}
+use Rattle.ck_tree.specs.Deletions.{is_block_from, blocks_from, deletions, file_keys}
+use Rattle.ck_tree.specs.Sizes.{first_past, cut_write, cut_changes, size_put, size_changes}
 use Rattle.ck_tree.specs.Plan.{block_by, numbers_after, StandsForPrimary, MayBeMade, Differ, IsPlan, making}
-use Rattle.ck_tree.specs.Standing.{StandsFor}
-use Rattle.ck_tree.specs.Writing.{grown_put, block_writes, write_changes}
-use Rattle.ck_tree.proofs.ResizingLemmas.{Fit, fit-none, fit-push, fit-weaker, resized_is}
+use Rattle.ck_tree.specs.Map.{StandsFor}
+use Rattle.ck_tree.specs.Writes.{grown_put, block_writes, write_changes}
+use Rattle.ck_tree.proofs.ResizeLemmas.{Fit, fit-none, fit-push, fit-weaker, resized_is}
 use Rattle.ck_tree.proofs.PathLemmas.{node_stands, file_node, directory_node, IsNameIn, name_in, new_name_is, name_stands}
-use Rattle.ck_tree.proofs.WritingLemmas.{in_range, written_is, writes_first, grown_differ, grown_few}
-use Rattle.ck_tree.proofs.StandingLaws.{stands_on, value_held}
+use Rattle.ck_tree.proofs.WriteLemmas.{in_range, written_is, writes_first, grown_differ, grown_few}
+use Rattle.ck_tree.proofs.MapLaws.{stands_on, value_held}
 use Rattle.ck_tree.proofs.DeletionLemmas.{all_deletions, file_deleted, file_differs, blocks_stand, file_few, IsNoBlock, node_no_block, blocks_differ, blocks_apart, blocks_few}
 
 -- ---- what stands has an entry in the primary

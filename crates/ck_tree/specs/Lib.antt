@@ -1,7 +1,7 @@
-pub mod Standing
-pub mod Listing
+pub mod Map
+pub mod Directory
 pub mod Faults
-pub mod Removing
-pub mod Resizing
-pub mod Writing
+pub mod Deletions
+pub mod Sizes
+pub mod Writes
 pub mod Plan

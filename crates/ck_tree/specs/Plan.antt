@@ -11,7 +11,7 @@ use Rattle.ck_model.specs.declared.change.Change.TheVariants as change
 use Rattle.ck_model.specs.declared.checkpoint.Counters.{Counters}
 use Rattle.ck_model.specs.Cells.{Cells, set_cell}
 use Rattle.ck_model.specs.Changes.{cell_of, block_after, cut_block}
-use Rattle.ck_model.specs.Changing.{changed_by}
+use Rattle.ck_model.specs.FileCalls.{changed_by}
 use Rattle.ck_model.specs.Held.{IsKey, IsEntry, IsStamp}
 use Rattle.ck_model.specs.Rules.{KeyBelow, HeldBelow}
 use Rattle.ck_model.specs.Table.{Table, column}
@@ -21,7 +21,7 @@ use Rattle.ck_chain.specs.Changes.{deletions_first, is_deletion, key_of, value_a
 use Rattle.ck_tree.specs.declared.fault.TreeFault.{TreeFault}
 use Rattle.ck_tree.specs.declared.fault.TreeFault.TheVariants.{NoMemory}
 use Rattle.ck_tree.specs.Faults.{reply_of}
-use Rattle.ck_tree.specs.Standing.{StandsFor}
+use Rattle.ck_tree.specs.Map.{StandsFor}
 
 -- ---- what the model says of a call
 

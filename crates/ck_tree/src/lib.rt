@@ -2,26 +2,26 @@
 //! of its last name. Generic over the table.
 #![tactic(auto)]
 
-mod drawing;
+mod deletions;
+mod directory;
 mod fault;
-mod finding;
-mod following;
-mod listing;
-mod naming;
+mod keys;
+mod lookup;
 mod nodes;
-mod planning;
-mod removing;
-mod replying;
-mod resizing;
+mod numbers;
+mod paths;
+mod plans;
+mod replies;
+mod sizes;
 mod value;
-mod walking;
-mod writing;
+mod walks;
+mod writes;
 
-pub use drawing::draw;
+pub use directory::{children, has_names};
 pub use fault::TreeFault;
-pub use listing::{children, has_names};
-pub use naming::{directory_at, file_at, name_at, new_name_at, node_at};
 pub use nodes::{is_directory_at, size_at};
-pub use planning::plan;
+pub use numbers::draw;
+pub use paths::{directory_at, file_at, name_at, new_name_at, node_at};
+pub use plans::plan;
 pub use value::held_at;
-pub use walking::walk;
+pub use walks::walk;

@@ -12,7 +12,7 @@ ghost use Rattle.ck_model.specs.Cells.{
 };
 ghost use Rattle.ck_model.specs.Chain.{value_at};
 ghost use Rattle.ck_model.specs.Values.{payload_of};
-ghost use Rattle.ck_tree.specs.Standing.{small_in, StandsFor};
+ghost use Rattle.ck_tree.specs.Map.{small_in, StandsFor};
 
 use crate::value::held_at;
 use ck_model::{Held, Key, Meta, Small};

@@ -2,7 +2,7 @@
 use Rattle.std.proofs.Common.{◌≡◌, ℕ, IsTrue, sym, ap, subst, ◌∙◌}
 use Rattle.ck_disk.specs.Disk.{Meaning, Lawful}
 use Rattle.ck_model.specs.World.{World, unmounted}
-use Rattle.ck_model.specs.Standing.{world_on}
+use Rattle.ck_model.specs.TableWorld.{world_on}
 use Rattle.ck_data.specs.Device.{store_on}
 use Rattle.ck_engine.specs.declared.engine.Engine.{Engine}
 use Rattle.ck_engine.specs.Engine.{table_of, data_of, world_of, KeepsWorld}

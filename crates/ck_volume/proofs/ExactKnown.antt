@@ -23,7 +23,7 @@ use Rattle.ck_model.specs.declared.checkpoint.Fileset.{Fileset}
 use Rattle.ck_model.specs.Held.{IsKey, BelongsTo}
 use Rattle.ck_model.specs.World.{World}
 use Rattle.ck_model.specs.Space.{held, records_in}
-use Rattle.ck_model.specs.Standing.{world_on, extent_count}
+use Rattle.ck_model.specs.TableWorld.{world_on, extent_count}
 use Rattle.ck_model.specs.Table.{Table, record_count}
 use Rattle.ck_data.specs.Device.{store_on}
 use Rattle.ck_engine.specs.Exact.{IsExact}

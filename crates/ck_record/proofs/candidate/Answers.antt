@@ -1,6 +1,6 @@
 use Rattle.ck_record.specs.Record.{fields_of, spelling}
-use Rattle.ck_record.specs.Reading.{record_in}
-use Rattle.ck_record.proofs.ReadingLemmas.{is_fields, within_limits, taken_again}
+use Rattle.ck_record.specs.Candidates.{record_in}
+use Rattle.ck_record.proofs.FieldLemmas.{is_fields, within_limits, taken_again}
 use Rattle.ck_record.proofs.candidate.Goals as goal
 
 pub returns-clause-within : goal.returns-clause-within

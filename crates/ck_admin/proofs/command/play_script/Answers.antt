@@ -1,8 +1,8 @@
 use Rattle.std.proofs.Common.{◌≡◌, ap}
 use Rattle.ck_disk.specs.Disk.{Meaning}
-use Rattle.ck_model.specs.Standing.{world_on}
+use Rattle.ck_model.specs.TableWorld.{world_on}
 use Rattle.ck_model.specs.World.{World, unmounted}
-use Rattle.ck_script.specs.Reading.{Parsed}
+use Rattle.ck_script.specs.Parsed.{Parsed}
 use Rattle.ck_data.specs.Device.{store_on}
 use Rattle.ck_engine.specs.Engine.{data_of, table_of}
 use Rattle.ck_volume.specs.Volume.{disk_of, world_of}

@@ -5,7 +5,7 @@ use Rattle.ck_script.specs.Numbered.{calls_in}
 use Rattle.ck_volume.specs.Volume.{disk_of, world_of}
 use Rattle.ck_disk.proofs.MomentLaws.{leaves_start}
 use Rattle.ck_admin.specs.Crash.{IsPlayed}
-use Rattle.ck_admin.specs.Ending.{EndsOn}
+use Rattle.ck_admin.specs.Ends.{EndsOn}
 use Rattle.ck_admin.proofs.command.play_volume.Goals as goal
 
 pub returns-clause-ends : goal.returns-clause-ends

@@ -1,6 +1,6 @@
 use Rattle.std.proofs.Common.{◌≡◌, ◌+◌, take, length, sym, ap, ◌∙◌}
 use Rattle.std.proofs.Math.Seq.{take-append_seam}
-use Rattle.ck_script.specs.Reading.{read_script}
+use Rattle.ck_script.specs.Parsed.{read_script}
 use Rattle.ck_script.proofs.ScriptLaws.{read_script-take}
 use Rattle.ck_admin.proofs.read.read_bytes.Goals as goal
 

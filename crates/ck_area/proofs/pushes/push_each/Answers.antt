@@ -1,6 +1,6 @@
 use Rattle.std.proofs.Common.{◌+◌, ℕ, arith, rules, sym, subst, ◌∙◌}
 use Rattle.ck_area.specs.Pushed.{ArePushed}
-use Rattle.ck_area.proofs.ReadingLemmas.{pushed_none, pushed_more}
+use Rattle.ck_area.proofs.BlockLemmas.{pushed_none, pushed_more}
 use Rattle.ck_area.proofs.pushes.push_each.Goals as goal
 
 pub push_reserved-requires : goal.push_reserved-requires

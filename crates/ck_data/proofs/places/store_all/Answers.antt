@@ -4,7 +4,7 @@ use Rattle.std.specs.List.{AllByRecursion}
 use Rattle.ck_alloc.specs.Blocks.{Allocation, IsPartition}
 use Rattle.ck_model.specs.declared.change.Change.{Change}
 use Rattle.ck_model.specs.declared.change.Change.TheVariants.{Write}
-use Rattle.ck_model.specs.Standing.{world_on}
+use Rattle.ck_model.specs.TableWorld.{world_on}
 use Rattle.ck_model.specs.Table.{Table}
 use Rattle.ck_model.specs.World.{World}
 use Rattle.ck_tree.specs.Plan.{block_by}

@@ -1,5 +1,5 @@
 use Rattle.std.proofs.Common.{◌≡◌, IsTrue}
-use Rattle.ck_model.specs.Standing.{world_on}
+use Rattle.ck_model.specs.TableWorld.{world_on}
 use Rattle.ck_model.specs.World.{Mounts}
 use Rattle.ck_tree.specs.Plan.{block_by}
 use Rattle.ck_data.specs.Device.{store_on}

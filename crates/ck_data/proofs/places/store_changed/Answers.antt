@@ -9,7 +9,7 @@ use Rattle.ck_model.specs.World.{World}
 use Rattle.ck_model.specs.declared.key.Key.TheVariants.{Block}
 use Rattle.ck_model.specs.Chain.{value_at}
 use Rattle.ck_model.specs.Rules.{IsSound, block_in}
-use Rattle.ck_model.specs.Standing.{values_of, world_on}
+use Rattle.ck_model.specs.TableWorld.{values_of, world_on}
 use Rattle.ck_model.specs.Table.{Table}
 use Rattle.ck_model.proofs.ValueLaws.{get-values_of}
 use Rattle.ck_tree.specs.Plan.{block_by}

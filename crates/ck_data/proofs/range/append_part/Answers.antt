@@ -1,6 +1,6 @@
 use Rattle.std.proofs.Common.{◌++◌, ap, ◌∙◌, arith}
 use Rattle.ck_data.specs.Device.{store_on}
-use Rattle.ck_data.proofs.ReadingLemmas.{part_is}
+use Rattle.ck_data.proofs.ReadLemmas.{part_is}
 use Rattle.ck_data.proofs.range.append_part.Goals as goal
 
 pub returns-clause-bytes : goal.returns-clause-bytes

@@ -1,7 +1,7 @@
 use Rattle.std.proofs.Common.{slice_index, sym, ap, ◌∙◌, arith}
 use Rattle.ck_data.specs.Device.{store_on}
 use Rattle.ck_data.specs.Reads.{bytes_of}
-use Rattle.ck_data.proofs.ReadingLemmas.{zeros}
+use Rattle.ck_data.proofs.ReadLemmas.{zeros}
 use Rattle.ck_data.proofs.range.load.Goals as goal
 
 pub overflow_add-area : goal.overflow_add-area

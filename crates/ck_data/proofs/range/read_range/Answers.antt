@@ -3,16 +3,16 @@ use Rattle.std.specs.List.{range_with_len}
 use Rattle.std.specs.Option.{option_and_then}
 use Rattle.ck_model.specs.Chain.{value_at}
 use Rattle.ck_model.specs.Cells.{size_at}
-use Rattle.ck_model.specs.Reading.{file_byte}
+use Rattle.ck_model.specs.Contents.{file_byte}
 use Rattle.ck_model.specs.Rules.{block_in}
 use Rattle.ck_model.specs.Values.{cells_on}
 use Rattle.ck_data.specs.Device.{store_on}
-use Rattle.ck_tree.proofs.StandingLaws.{stands_on as stands}
+use Rattle.ck_tree.proofs.MapLaws.{stands_on as stands}
 use Rattle.ck_files.proofs.StandsLaws.{value_below}
 use Rattle.ck_model.specs.declared.key.Key.TheVariants.{Block}
-use Rattle.ck_model.specs.Standing.{values_of}
+use Rattle.ck_model.specs.TableWorld.{values_of}
 use Rattle.ck_model.proofs.ValueLaws.{get-values_of}
-use Rattle.ck_data.proofs.ReadingLemmas.{range_more}
+use Rattle.ck_data.proofs.ReadLemmas.{range_more}
 use Rattle.ck_disk.proofs.RunLaws.{reads_on}
 use Rattle.ck_data.proofs.range.read_range.Goals as goal
 

@@ -1,8 +1,8 @@
 use Rattle.std.proofs.Common.{◌≡◌, ◌-◌, ◌≤◌, IsTrue, map as list_map}
 use Rattle.std.specs.List.{range_with_len}
-use Rattle.ck_model.specs.Reading.{file_byte}
+use Rattle.ck_model.specs.Contents.{file_byte}
 use Rattle.ck_model.specs.Values.{cells_on}
-use Rattle.ck_model.specs.Standing.{values_of}
+use Rattle.ck_model.specs.TableWorld.{values_of}
 use Rattle.ck_data.specs.Device.{store_on}
 use Rattle.ck_disk.specs.Runs.{OnlyReads}
 use Rattle.ck_data.proofs.range.read_range.Given as goal

@@ -1,10 +1,10 @@
 use Rattle.std.proofs.Common.{sym, ap, ◌∙◌}
 use Rattle.ck_model.specs.Cells.{Cells}
 use Rattle.ck_model.specs.Refusals.{and_then}
-use Rattle.ck_model.specs.Freezing.{with_data}
-use Rattle.ck_model.specs.Reporting.{range_read}
+use Rattle.ck_model.specs.CheckpointCalls.{with_data}
+use Rattle.ck_model.specs.ReadCalls.{range_read}
 use Rattle.ck_model.specs.Step.{answered}
-use Rattle.ck_model.specs.Standing.{world_on}
+use Rattle.ck_model.specs.TableWorld.{world_on}
 use Rattle.ck_data.specs.Device.{store_on}
 use Rattle.ck_files.specs.Room.{answered_with}
 use Rattle.ck_model.proofs.CaseLaws.{if_ok_map}

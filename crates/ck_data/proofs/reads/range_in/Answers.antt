@@ -1,14 +1,14 @@
 use Rattle.std.proofs.Common.{◌≡◌, Ok, Err, sym, ap, ◌∙◌}
 use Rattle.ck_model.specs.declared.reply.Reply.TheVariants.{Bytes}
 use Rattle.ck_model.specs.Refusals.{and_then}
-use Rattle.ck_model.specs.Reading.{file_range}
+use Rattle.ck_model.specs.Contents.{file_range}
 use Rattle.ck_model.specs.Step.{answered}
 use Rattle.ck_model.specs.Walk.{file_at}
 use Rattle.ck_model.specs.Values.{cells_on}
-use Rattle.ck_model.specs.Standing.{values_of}
+use Rattle.ck_model.specs.TableWorld.{values_of}
 use Rattle.ck_data.specs.Device.{store_on}
 use Rattle.ck_files.specs.Room.{answered_with}
-use Rattle.ck_tree.proofs.StandingLaws.{stands_on as stands}
+use Rattle.ck_tree.proofs.MapLaws.{stands_on as stands}
 use Rattle.ck_data.proofs.reads.range_in.Goals as goal
 
 pub returns-in_ok-bytes-in-Ok-clause-reply : goal.returns-in_ok-bytes-in-Ok-clause-reply

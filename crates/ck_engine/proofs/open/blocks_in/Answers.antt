@@ -1,5 +1,5 @@
 use Rattle.std.proofs.Common.{◌≡◌, ◌<◌, ℕ, List, length, slice_index_or, sym, subst, ◌∙◌}
-use Rattle.ck_model.specs.Standing.{extents_of}
+use Rattle.ck_model.specs.TableWorld.{extents_of}
 use Rattle.ck_slots.specs.Slots.{table_in}
 use Rattle.ck_engine.proofs.OpenLemmas.{extents_below, extents_allocated, if_ok_both}
 use Rattle.ck_engine.proofs.open.blocks_in.Goals as goal

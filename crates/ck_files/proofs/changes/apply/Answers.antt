@@ -1,6 +1,6 @@
 use Rattle.std.proofs.Common.{inl, inr, sym, ap, ◌∙◌}
 use Rattle.std.specs.FinMap as map
-use Rattle.ck_chain.specs.Naming.{block_of}
+use Rattle.ck_chain.specs.Named.{block_of}
 use Rattle.ck_chain.specs.Changes.{key_of, value_after}
 use Rattle.ck_files.specs.Allocated.{blocks_held}
 use Rattle.ck_files.proofs.UseLemmas.{each_some, allocated_after, busy_after, held_block, block_held}

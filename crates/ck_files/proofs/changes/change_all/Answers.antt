@@ -5,7 +5,7 @@ use Rattle.ck_model.specs.Rules.{IsSound}
 use Rattle.ck_push.specs.Growth.{gains, losses}
 use Rattle.ck_files.specs.Changes.{raised}
 use Rattle.ck_push.specs.Changes.{changed_all}
-use Rattle.ck_files.proofs.ChangingLemmas.{raised_lawful, raised_sound}
+use Rattle.ck_files.proofs.ChangeLemmas.{raised_lawful, raised_sound}
 use Rattle.ck_push.proofs.ChangeLaws.{are_made}
 use Rattle.ck_files.proofs.changes.change_all.Goals as goal
 

@@ -6,8 +6,8 @@ use Rattle.ck_model.specs.declared.reply.Reply.TheVariants.{Created, NoSpace}
 use Rattle.ck_model.specs.declared.reply.SpaceOf.TheVariants.{Records}
 use Rattle.ck_model.specs.Table.{spare_count, column}
 use Rattle.ck_model.specs.Chain.{present, value_of, is_live, seen}
-use Rattle.ck_model.specs.Standing.{world_on}
-use Rattle.ck_table.specs.Adding.{new_id, new_fileset, with_added}
+use Rattle.ck_model.specs.TableWorld.{world_on}
+use Rattle.ck_table.specs.Added.{new_id, new_fileset, with_added}
 use Rattle.ck_files.specs.Freeze.{refusal_of, refused_or}
 use Rattle.ck_files.specs.Plain.{IsPlain}
 use Rattle.ck_files.specs.Room.{answered_with}

@@ -1,5 +1,5 @@
 use Rattle.std.proofs.Common.{sym, ap, ◌∙◌}
-use Rattle.ck_model.specs.Standing.{world_on}
+use Rattle.ck_model.specs.TableWorld.{world_on}
 use Rattle.ck_model.specs.declared.reply.Reply.TheVariants.{Done}
 use Rattle.ck_files.specs.Room.{answered_with}
 use Rattle.ck_files.proofs.MountLemmas.{mounted-unnamed, mounted-in_use, mounted-done}

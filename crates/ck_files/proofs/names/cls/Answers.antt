@@ -1,8 +1,8 @@
 use Rattle.std.proofs.Common.{ap, ◌∙◌}
 use Rattle.ck_model.specs.Cells.{Cells}
 use Rattle.ck_model.specs.Refusals.{and_then}
-use Rattle.ck_model.specs.Reporting.{names_listed}
-use Rattle.ck_model.specs.Standing.{world_on}
+use Rattle.ck_model.specs.ReadCalls.{names_listed}
+use Rattle.ck_model.specs.TableWorld.{world_on}
 use Rattle.ck_model.specs.Step.{answered}
 use Rattle.ck_model.proofs.CaseLaws.{if_ok_map}
 use Rattle.ck_files.proofs.names.cls.Goals as goal

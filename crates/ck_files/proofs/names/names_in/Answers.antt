@@ -1,13 +1,13 @@
 use Rattle.std.proofs.Common.{◌≡◌, Ok, Err, sym, ap, ◌∙◌}
 use Rattle.ck_model.specs.declared.reply.Reply.TheVariants.{Names}
-use Rattle.ck_model.specs.Reading.{children}
+use Rattle.ck_model.specs.Contents.{children}
 use Rattle.ck_model.specs.Refusals.{and_then}
-use Rattle.ck_model.specs.Standing.{values_of}
+use Rattle.ck_model.specs.TableWorld.{values_of}
 use Rattle.ck_model.specs.Step.{answered}
 use Rattle.ck_model.specs.Values.{cells_on}
 use Rattle.ck_model.specs.Walk.{directory_at}
 use Rattle.ck_files.specs.Room.{answered_with}
-use Rattle.ck_tree.proofs.StandingLaws.{stands_on as stands}
+use Rattle.ck_tree.proofs.MapLaws.{stands_on as stands}
 use Rattle.ck_files.proofs.names.names_in.Goals as goal
 
 pub returns-in_ok-found-in-Ok-clause-reply : goal.returns-in_ok-found-in-Ok-clause-reply

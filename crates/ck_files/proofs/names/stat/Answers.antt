@@ -1,14 +1,14 @@
 use Rattle.std.proofs.Common.{◌≡◌, Ok, Err, sym, ap, ◌∙◌}
 use Rattle.ck_model.specs.declared.reply.Reply.{Reply}
 use Rattle.ck_model.specs.Refusals.{and_then}
-use Rattle.ck_model.specs.Reporting.{stat_reply}
-use Rattle.ck_model.specs.Standing.{values_of, world_on}
+use Rattle.ck_model.specs.ReadCalls.{stat_reply}
+use Rattle.ck_model.specs.TableWorld.{values_of, world_on}
 use Rattle.ck_model.specs.Step.{answered}
 use Rattle.ck_model.specs.Values.{cells_on}
 use Rattle.ck_model.specs.Walk.{node_at}
 use Rattle.ck_files.specs.Room.{answered_with}
 use Rattle.ck_model.proofs.CaseLaws.{if_ok_map}
-use Rattle.ck_tree.proofs.StandingLaws.{stands_on as stands}
+use Rattle.ck_tree.proofs.MapLaws.{stands_on as stands}
 use Rattle.ck_files.proofs.names.stat.Goals as goal
 
 pub returns-in-Ok-clause-reply : goal.returns-in-Ok-clause-reply

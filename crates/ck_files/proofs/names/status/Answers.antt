@@ -1,11 +1,11 @@
 use Rattle.std.proofs.Common.{◌≡◌, ◌≤◌, true, false, if◌then◌else◌, length, sym, ap, ◌∙◌, arith}
 use Rattle.ck_model.specs.declared.reply.Reply.TheVariants.{StatDir, StatFile}
 use Rattle.ck_model.specs.Cells.{is_directory_at, size_at}
-use Rattle.ck_model.specs.Reading.{children}
-use Rattle.ck_model.specs.Standing.{values_of}
+use Rattle.ck_model.specs.Contents.{children}
+use Rattle.ck_model.specs.TableWorld.{values_of}
 use Rattle.ck_model.specs.Values.{cells_on, no_store}
 use Rattle.ck_files.proofs.NamesLemmas.{names-few}
-use Rattle.ck_tree.proofs.StandingLaws.{stands_on as stands}
+use Rattle.ck_tree.proofs.MapLaws.{stands_on as stands}
 use Rattle.ck_files.proofs.names.status.Goals as goal
 
 pub overflow_cast-result : goal.overflow_cast-result

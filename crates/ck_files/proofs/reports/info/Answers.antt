@@ -3,7 +3,7 @@ use Rattle.ck_model.specs.declared.reply.Reply.TheVariants.{Info}
 use Rattle.ck_model.specs.declared.checkpoint.Limits.{Limits}
 use Rattle.ck_model.specs.Space.{held, records_in}
 use Rattle.ck_model.specs.Table.{record_count}
-use Rattle.ck_model.specs.Standing.{checkpoints_on, world_on}
+use Rattle.ck_model.specs.TableWorld.{checkpoints_on, world_on}
 use Rattle.ck_files.proofs.RoomLaws.{held-is, records-is}
 use Rattle.ck_files.proofs.Listed.{length-is}
 use Rattle.ck_files.proofs.reports.info.Goals as goal

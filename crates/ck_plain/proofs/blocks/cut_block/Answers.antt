@@ -1,6 +1,6 @@
 use Rattle.std.proofs.Common.{◌≡◌, nat_lt, if◌then◌else◌, slice_index, map as list_map, ap, ◌∙◌, arith}
 use Rattle.std.specs.List.{range_with_len}
-use Rattle.ck_model.specs.Reading.{block_byte}
+use Rattle.ck_model.specs.Contents.{block_byte}
 use Rattle.ck_model.specs.Changes.{cut_block}
 use Rattle.ck_plain.proofs.Pushed.{pushed_range}
 use Rattle.ck_plain.proofs.blocks.cut_block.Goals as goal

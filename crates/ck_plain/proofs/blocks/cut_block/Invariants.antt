@@ -1,6 +1,6 @@
 use Rattle.std.proofs.Common.{◌≡◌, map as list_map, nat_lt, if◌then◌else◌}
 use Rattle.std.specs.List.{range_with_len}
-use Rattle.ck_model.specs.Reading.{block_byte}
+use Rattle.ck_model.specs.Contents.{block_byte}
 use Rattle.ck_plain.proofs.blocks.cut_block.Given as goal
 
 abbrev pub invariant-loop-place : goal.invariant-loop-place

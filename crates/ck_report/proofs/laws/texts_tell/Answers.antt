@@ -1,4 +1,4 @@
-use Rattle.ck_report.proofs.Telling as telling
+use Rattle.ck_report.proofs.Lines as telling
 use Rattle.ck_report.proofs.laws.texts_tell.Goals as goal
 
 pub returns : goal.returns

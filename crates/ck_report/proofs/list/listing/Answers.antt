@@ -1,7 +1,7 @@
 use Rattle.std.proofs.Common.{◌+◌, List, drop, subst}
 use Rattle.std.proofs.lemmas.List.{drop_all}
 use Rattle.ck_model.specs.declared.checkpoint.CkptLine.{CkptLine}
-use Rattle.ck_report.proofs.ListingLemmas.{IsBegun, begun_more, listed, drop_item}
+use Rattle.ck_report.proofs.ListLemmas.{IsBegun, begun_more, listed, drop_item}
 use Rattle.ck_report.proofs.list.listing.Goals as goal
 
 pub loop-line-preserved : goal.loop-line-preserved

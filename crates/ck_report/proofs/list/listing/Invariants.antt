@@ -1,5 +1,5 @@
 use Rattle.std.proofs.Common.{drop}
-use Rattle.ck_report.proofs.ListingLemmas.{IsBegun}
+use Rattle.ck_report.proofs.ListLemmas.{IsBegun}
 use Rattle.ck_report.proofs.list.listing.Given as goal
 
 abbrev pub invariant-loop-line : goal.invariant-loop-line

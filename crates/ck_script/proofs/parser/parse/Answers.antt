@@ -7,10 +7,10 @@ use Rattle.ck_script.specs.Limits.{IsWithinLimits}
 use Rattle.ck_script.specs.Names.{HaveValidNames}
 use Rattle.ck_script.specs.Places.{HavePlaces}
 use Rattle.ck_script.specs.Numbered.{IsNumbered}
-use Rattle.ck_script.specs.Reading.{Parsed, read_script}
+use Rattle.ck_script.specs.Parsed.{Parsed, read_script}
 use Rattle.ck_script.specs.Steps.{IsFaultOf}
 use Rattle.ck_script.proofs.KeepsLemmas.{IsRead, script_is_read, read_within}
-use Rattle.ck_script.proofs.ReadingLemmas.{read_script-is}
+use Rattle.ck_script.proofs.ParsedLemmas.{read_script-is}
 use Rattle.ck_script.proofs.parser.parse.Goals as goal
 
 pub returns-in_err-tally-clause-refused : goal.returns-in_err-tally-clause-refused

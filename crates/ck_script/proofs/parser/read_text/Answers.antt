@@ -1,8 +1,8 @@
 use Rattle.std.proofs.Common.{sym, subst, arith, ◌∙◌, ◌≡◌, Some}
 use Rattle.std.proofs.lemmas.Result.{err_from_is_err_and}
-use Rattle.ck_script.specs.Reading.{with_line}
+use Rattle.ck_script.specs.Parsed.{with_line}
 use Rattle.ck_script.specs.Steps.{IsRefusal}
-use Rattle.ck_script.proofs.ReadingLemmas.{next_read, next_refused, next_long}
+use Rattle.ck_script.proofs.ParsedLemmas.{next_read, next_refused, next_long}
 use Rattle.ck_script.proofs.parser.read_text.Goals as goal
 
 pub returns-then-is_long-clause-err : goal.returns-then-is_long-clause-err

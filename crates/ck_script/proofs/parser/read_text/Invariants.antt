@@ -1,6 +1,6 @@
 use Rattle.std.proofs.Common.{◌≡◌, ◌+◌, ◌-◌, ◌≤◌, length, drop}
 use Rattle.std.specs.Str.Lines.{lines as lines_of}
-use Rattle.ck_script.specs.Reading.{nothing_read, read_lines}
+use Rattle.ck_script.specs.Parsed.{nothing_read, read_lines}
 use Rattle.ck_script.proofs.parser.read_text.Given as goal
 
 abbrev pub invariant-loop-at : goal.invariant-loop-at

@@ -3,7 +3,7 @@ use Rattle.ck_model.specs.Key.{entry_cmp}
 use Rattle.ck_slots.specs.Arranged.{arranged, entry_of, no_slot}
 use Rattle.ck_slots.specs.Cut.{stands_before}
 use Rattle.ck_slots.proofs.ArrangedLemmas.{length-arranged, get_or-arranged}
-use Rattle.ck_slots.proofs.Cutting.{front_above, front_below, front_le, cut_falls}
+use Rattle.ck_slots.proofs.Cuts.{front_above, front_below, front_le, cut_falls}
 use Rattle.ck_slots.proofs.search.count_before.Goals as goal
 
 pub loop-low-init : goal.loop-low-init

@@ -6,7 +6,7 @@ use Rattle.ck_slots.specs.Arranged.{arranged, entry_of, no_slot}
 use Rattle.ck_slots.specs.Cut.{front, stands_before, cut_behind}
 use Rattle.ck_slots.specs.Order.{numbers_in, index_in}
 use Rattle.ck_slots.proofs.ArrangedLemmas.{length-arranged, get_or-arranged}
-use Rattle.ck_slots.proofs.FollowingLemmas.{next_at_cut, none_at_cut}
+use Rattle.ck_slots.proofs.NextKeyLemmas.{next_at_cut, none_at_cut}
 use Rattle.ck_slots.proofs.PieceLemmas.{index_inside}
 use Rattle.ck_slots.proofs.search.next_key.Goals as goal
 

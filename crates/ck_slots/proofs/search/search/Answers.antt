@@ -7,7 +7,7 @@ use Rattle.ck_slots.specs.Arranged.{arranged, entry_of, no_slot}
 use Rattle.ck_slots.specs.Cut.{stands_before}
 use Rattle.ck_slots.specs.Order.{numbers_in, index_in}
 use Rattle.ck_slots.proofs.ArrangedLemmas.{length-arranged, get_or-arranged}
-use Rattle.ck_slots.proofs.Cutting.{front_le}
+use Rattle.ck_slots.proofs.Cuts.{front_le}
 use Rattle.ck_slots.proofs.PieceLemmas.{index_inside}
 use Rattle.ck_slots.proofs.search.search.Goals.{else-has-via-then-has+else-is_entry, else-has-via-else-has}
 use Rattle.ck_slots.proofs.search.search.Goals as goal

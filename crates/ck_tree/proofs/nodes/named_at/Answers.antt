@@ -2,7 +2,7 @@ use Rattle.std.proofs.Common.{ap, ◌∙◌}
 use Rattle.std.specs.Option.{option_map}
 use Rattle.ck_model.specs.Cells.{named_node}
 use Rattle.ck_model.specs.Values.{payload_of}
-use Rattle.ck_tree.proofs.Asking.{asked, named-alike}
+use Rattle.ck_tree.proofs.Questions.{asked, named-alike}
 use Rattle.ck_tree.proofs.nodes.named_at.Goals as goal
 
 pub returns : goal.returns

@@ -3,7 +3,7 @@ use Rattle.std.specs.Option.{option_map}
 use Rattle.ck_model.specs.declared.key.Key.TheVariants.{Node}
 use Rattle.ck_model.specs.Cells.{size_in}
 use Rattle.ck_model.specs.Values.{payload_of}
-use Rattle.ck_tree.proofs.Asking.{asked, size-alike}
+use Rattle.ck_tree.proofs.Questions.{asked, size-alike}
 use Rattle.ck_tree.proofs.nodes.size_at.Goals as goal
 
 pub returns : goal.returns

@@ -1,6 +1,6 @@
 use Rattle.std.proofs.Common.{arith}
 use Rattle.ck_disk.proofs.MomentLaws.{set_same}
-use Rattle.ck_disk.proofs.Losing.{lost_crash, lost_marks, lost_counts, lost_step}
+use Rattle.ck_disk.proofs.LostWrites.{lost_crash, lost_marks, lost_counts, lost_step}
 use Rattle.ck_disk.proofs.fuse_disk.FuseDiskDisk.write.Goals as goal
 
 pub returns-then-self-eq0-clause-others : goal.returns-then-self-eq0-clause-others

@@ -1,6 +1,6 @@
 use Rattle.std.proofs.Common.{◌∙◌, []}
 use Rattle.std.proofs.lemmas.List.{with_items_is}
-use Rattle.ck_disk.proofs.Tearing.{torn_next}
+use Rattle.ck_disk.proofs.TornWrites.{torn_next}
 use Rattle.ck_disk.proofs.mem_disk.MemDisk.crash.Goals as goal
 
 pub loop-one-preserved : goal.loop-one-preserved

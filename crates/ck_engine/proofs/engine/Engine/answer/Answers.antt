@@ -3,7 +3,7 @@ use Rattle.ck_model.specs.declared.call.Call.{Call}
 use Rattle.ck_model.specs.Step.{changing, step}
 use Rattle.ck_model.specs.Streams.{Texts}
 use Rattle.ck_model.specs.World.{World}
-use Rattle.ck_model.specs.Changing.{changed_by}
+use Rattle.ck_model.specs.FileCalls.{changed_by}
 use Rattle.ck_engine.specs.Engine.{world_of}
 use Rattle.ck_model.proofs.CaseLaws.{if_ok_map}
 use Rattle.ck_engine.proofs.engine.Engine.answer.Goals as goal

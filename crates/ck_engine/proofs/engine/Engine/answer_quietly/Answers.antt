@@ -3,7 +3,7 @@ use Rattle.std.specs.FinMap as map
 use Rattle.ck_model.specs.declared.call.Call.{Call}
 use Rattle.ck_model.specs.declared.reply.Reply.{Reply}
 use Rattle.ck_model.specs.History.{is_fault}
-use Rattle.ck_model.specs.Standing.{world_on}
+use Rattle.ck_model.specs.TableWorld.{world_on}
 use Rattle.ck_model.specs.Step.{step}
 use Rattle.ck_files.specs.Room.{answered_with}
 use Rattle.ck_engine.specs.Engine.{table_of, mounts_of}

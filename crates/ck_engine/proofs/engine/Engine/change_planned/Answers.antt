@@ -4,9 +4,9 @@ use Rattle.ck_model.specs.declared.checkpoint.Limits.{Limits}
 use Rattle.ck_files.specs.Files.{AreFiles}
 use Rattle.ck_data.specs.Stored.{OnlyStores}
 use Rattle.ck_model.specs.declared.reply.Reply.TheVariants.{Done}
-use Rattle.ck_model.specs.Standing.{world_on}
+use Rattle.ck_model.specs.TableWorld.{world_on}
 use Rattle.ck_model.specs.Step.{changing}
-use Rattle.ck_model.specs.Changing.{changed_by}
+use Rattle.ck_model.specs.FileCalls.{changed_by}
 use Rattle.ck_data.specs.Device.{store_on}
 use Rattle.ck_files.specs.Room.{answered_with}
 use Rattle.ck_engine.specs.Engine.{table_of, mounts_of, blocks_of, data_of, world_of}

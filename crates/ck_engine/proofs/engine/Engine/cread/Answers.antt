@@ -1,6 +1,6 @@
 use Rattle.std.proofs.Common.{◌≡◌, ℕ, refl, ap, subst}
-use Rattle.ck_model.specs.Reporting.{checkpoint_read}
-use Rattle.ck_model.specs.Standing.{world_on}
+use Rattle.ck_model.specs.ReadCalls.{checkpoint_read}
+use Rattle.ck_model.specs.TableWorld.{world_on}
 use Rattle.ck_model.specs.Step.{answered}
 use Rattle.ck_data.specs.Device.{store_on}
 use Rattle.ck_files.specs.Room.{answered_with}

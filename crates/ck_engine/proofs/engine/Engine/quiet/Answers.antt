@@ -1,6 +1,6 @@
 use Rattle.std.proofs.Common.{inr, sym, subst, ◌∙◌}
 use Rattle.ck_log.specs.Layout.{base_of}
-use Rattle.ck_model.specs.Standing.{world_on}
+use Rattle.ck_model.specs.TableWorld.{world_on}
 use Rattle.ck_data.specs.Device.{store_on}
 use Rattle.ck_files.specs.Room.{answered_with}
 use Rattle.ck_engine.specs.Engine.{IsAttempt, GoesOn, table_of, mounts_of, data_of}

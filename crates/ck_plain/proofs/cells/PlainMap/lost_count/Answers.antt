@@ -1,6 +1,6 @@
 use Rattle.std.proofs.Common.{rules}
 use Rattle.ck_model.specs.Cells.{is_gone_in}
-use Rattle.ck_plain.proofs.Counting.{counted}
+use Rattle.ck_plain.proofs.CountLemmas.{counted}
 use Rattle.ck_plain.proofs.cells.PlainMap.lost_count.Goals as goal
 
 pub returns : goal.returns

@@ -1,7 +1,7 @@
 use Rattle.std.proofs.Common.{◌≡◌, Result, Ok, IfOk, subst, arith}
 use Rattle.ck_model.specs.declared.reply.Reply.{Reply}
 use Rattle.ck_model.specs.World.{World}
-use Rattle.ck_model.specs.Changing.{changed_by}
+use Rattle.ck_model.specs.FileCalls.{changed_by}
 use Rattle.ck_plain.specs.Plain.{world_of}
 use Rattle.ck_plain.specs.Changed.{Answers, with_next}
 use Rattle.ck_plain.proofs.FewCells.{IsSmall, changed_by-small}

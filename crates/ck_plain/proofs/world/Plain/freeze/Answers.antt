@@ -5,12 +5,12 @@ use Rattle.ck_model.specs.declared.reply.Reply.{Reply}
 use Rattle.ck_model.specs.declared.reply.Reply.TheVariants.{Created}
 use Rattle.ck_model.specs.Cells.{Cells}
 use Rattle.ck_model.specs.World.{Checkpoint, shown_by}
-use Rattle.ck_model.specs.Freezing.{kind_of, frozen_world}
+use Rattle.ck_model.specs.CheckpointCalls.{kind_of, frozen_world}
 use Rattle.ck_model.proofs.DifferenceLaws.{len-shown_by}
 use Rattle.ck_plain.specs.Plain.{checkpoint_of, world_of}
 use Rattle.ck_plain.specs.Room.{has_room, picks_for}
 use Rattle.ck_plain.proofs.Lists.{map_append}
-use Rattle.ck_plain.proofs.Asking.{Gives, beside, frozen_ask, frozen-asked, with_room-fits, with_room-full}
+use Rattle.ck_plain.proofs.Questions.{Gives, beside, frozen_ask, frozen-asked, with_room-fits, with_room-full}
 use Rattle.ck_plain.proofs.world.Plain.freeze.Goals as goal
 
 pub invariant_of-push_reserved : goal.invariant_of-push_reserved

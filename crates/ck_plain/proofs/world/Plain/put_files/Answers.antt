@@ -11,7 +11,7 @@ use Rattle.ck_plain.specs.Plain.{checkpoint_of, world_of}
 use Rattle.ck_plain.specs.Changed.{with_next}
 use Rattle.ck_plain.specs.Outcome.{with_files}
 use Rattle.ck_plain.specs.Room.{has_room, picks_for}
-use Rattle.ck_plain.proofs.Asking.{Gives, beside, files_ask, files-asked, with_room-fits, with_room-full}
+use Rattle.ck_plain.proofs.Questions.{Gives, beside, files_ask, files-asked, with_room-fits, with_room-full}
 use Rattle.ck_plain.proofs.world.Plain.put_files.Goals as goal
 
 pub invariant_of-room : goal.invariant_of-room

@@ -4,12 +4,12 @@ use Rattle.std.specs.List.{find, remove, slice_get}
 use Rattle.std.proofs.lemmas.List.{get_or_default}
 use Rattle.std.proofs.lemmas.Option.{slice_get_read}
 use Rattle.ck_model.specs.World.{World, is_named, keeps_files}
-use Rattle.ck_model.specs.Freezing.{older_than}
+use Rattle.ck_model.specs.CheckpointCalls.{older_than}
 use Rattle.ck_plain.specs.declared.answer.Answer.{Answer}
 use Rattle.ck_plain.specs.declared.world.PlainCheckpoint.{PlainCheckpoint}
 use Rattle.ck_plain.specs.Plain.{checkpoint_of, world_of}
 use Rattle.ck_plain.specs.Outcome.{outcome_with}
-use Rattle.ck_plain.proofs.Restoring.{restored-is, take-remove}
+use Rattle.ck_plain.proofs.Restored.{restored-is, take-remove}
 use Rattle.ck_plain.proofs.world.Plain.restore.Goals as goal
 
 pub returns : goal.returns

@@ -2,7 +2,7 @@ use Rattle.std.proofs.Common.{◌≡◌, ◌+◌, ◌++◌, ◌∷◌, [], List,
 use Rattle.std.specs.Prelude.{slice_index, slice_set}
 use Rattle.ck_script.specs.declared.line.Line.{Line}
 use Rattle.ck_script.specs.Limits.{are_within_limits}
-use Rattle.ck_script.specs.Reading.{Parsed}
+use Rattle.ck_script.specs.Parsed.{Parsed}
 use Rattle.ck_script.specs.Steps.{IsTally}
 use Rattle.ck_script.proofs.TallyLemmas.{count_few, tally_more}
 use Rattle.ck_script.proofs.tally.Tally.push.Goals as goal

@@ -1,7 +1,7 @@
 use Rattle.std.proofs.Common.{◌≡◌, ◌∷◌, [], Some, MatchOption, length, sym, subst}
 use Rattle.std.specs.Option.{option_copied}
 use Rattle.ck_slots.specs.Arranged.{arranged}
-use Rattle.ck_slots.specs.Following.{keys_behind}
+use Rattle.ck_slots.specs.NextKey.{keys_behind}
 use Rattle.ck_slots.specs.Order.{numbers_in}
 use Rattle.ck_slots.proofs.ArrangedLemmas.{entries-entries_of}
 use Rattle.ck_slots.proofs.OnceLemmas.{in_range}

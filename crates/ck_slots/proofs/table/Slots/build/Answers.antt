@@ -3,7 +3,7 @@ use Rattle.ck_model.specs.Table.{IsTable, IsSized}
 use Rattle.ck_area.specs.Area.{table_of as area_table}
 use Rattle.ck_area.proofs.TableLaws.{table_within, undamaged_few, undamaged_sized}
 use Rattle.ck_slots.specs.Lawful.{table_of}
-use Rattle.ck_slots.proofs.BuildingLemmas.{same_table}
+use Rattle.ck_slots.proofs.MapLemmas.{same_table}
 use Rattle.ck_slots.proofs.table.Slots.build.Goals as goal
 
 pub entries_from-requires-clause-few : goal.entries_from-requires-clause-few

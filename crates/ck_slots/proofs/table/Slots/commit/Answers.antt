@@ -3,7 +3,7 @@ use Rattle.ck_disk.specs.Disk.{Image, LeavesOnly}
 use Rattle.ck_log.specs.Layout.{table_blocks}
 use Rattle.ck_log.specs.Images.{table_on, CommitLeaves}
 use Rattle.ck_slots.specs.Slots.{table_in}
-use Rattle.ck_slots.proofs.SpellingLemmas.{room_for, spelled_slots, blocks_of, blocks_of-slots}
+use Rattle.ck_slots.proofs.WrittenTexts.{room_for, spelled_slots, blocks_of, blocks_of-slots}
 use Rattle.ck_slots.proofs.CommitLemmas.{nothing_left, same_after}
 use Rattle.ck_slots.proofs.table.Slots.commit.Goals as goal
 

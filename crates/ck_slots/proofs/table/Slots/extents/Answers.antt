@@ -1,7 +1,7 @@
 use Rattle.std.proofs.Common.{◌++◌, sym, ap, ◌∙◌, arith}
 use Rattle.std.specs.FinMap as map
 use Rattle.std.proofs.lemmas.List.{take_all}
-use Rattle.ck_model.specs.Standing.{blocks_in, blocks_of}
+use Rattle.ck_model.specs.TableWorld.{blocks_in, blocks_of}
 use Rattle.ck_slots.specs.Slots.{table_in}
 use Rattle.ck_slots.proofs.ExtentLemmas.{blocks_more}
 use Rattle.ck_slots.proofs.table.Slots.extents.Goals as goal

@@ -1,6 +1,6 @@
 use Rattle.std.proofs.Common.{◌≡◌, ◌≤◌, take, vec_len, vec_capacity}
 use Rattle.std.specs.FinMap as map
-use Rattle.ck_model.specs.Standing.{blocks_of}
+use Rattle.ck_model.specs.TableWorld.{blocks_of}
 use Rattle.ck_slots.specs.Slots.{table_in}
 use Rattle.ck_slots.proofs.table.Slots.extents.Given as goal
 

@@ -6,7 +6,7 @@ use Rattle.ck_area.specs.Area.{table_of as area_table}
 use Rattle.ck_area.proofs.WrittenLaws.{built_read}
 use Rattle.ck_area.proofs.TableLaws.{records_of_slots, undamaged_sound}
 use Rattle.ck_slots.specs.Opened.{IsBuilt}
-use Rattle.ck_slots.specs.Building.{AreRecords}
+use Rattle.ck_slots.specs.Maps.{AreRecords}
 use Rattle.ck_slots.proofs.table.Slots.open.Goals as goal
 
 pub build-requires-clause-within_limits : goal.build-requires-clause-within_limits
