@@ -176,3 +176,34 @@ tidy_reads t f key above stands own same = entry_reads t f key None above stands
     ∙ ap (read_as b) rest
     ∙ ap (λ (o : Option Held). if b then o else option_map as_mark o) (sym same)
     ∙ elim (column t key f) as (λ o. IsSome o → read_as b o ≡ read_as b (option_or o (first_entry (column t key) (newer t f)))) [ None ↦ λ h. absurd (false≢true h) | Some h ↦ λ _. refl ] own)
+
+-- An entry hidden by an older one may be written or go: readers up to the older one, and readers above it, see what they saw.
+pub hidden_reads : (t : Table) (n f : ℕ) (key : Key) (h : Held) (w : Option Held) → 0 < n → n < f → IsSome (map.get t.filesets n) → column t key n ≡ Some h
+    → (fs : ℕ) (q : Key) → 0 < fs → (fs ≤ n) ⊎ (f < fs) → seen (with_entry t f key w) fs q ≡ seen t fs q
+hidden_reads t n f key h w above lower stands own fs q positive place = elim (same_or_other q key) [
+  | inr other ↦ ap (λ (c : ℕ → Option Held). read_as (keeps_data t fs) (first_entry c (fs ∷ newer t fs))) (column-with_entry_other t f key w q other)
+  | inl same ↦
+      let d = column (with_entry t f key w) key in
+      let agrees : (x : ℕ) → x ≢ f → d x ≡ column t key x = λ x apart. column-with_entry t f key w x ∙ grind (arith, nat_tests) in
+      let here : d n ≡ Some h = agrees n (omega arith) ∙ own in
+      let b = keeps_data t fs in
+      let at_key : seen (with_entry t f key w) fs key ≡ seen t fs key = elim place [
+        | inl le ↦ older_reads t d key b fs n positive le stands (λ x low high. agrees x (omega arith))
+            (ap (λ o. read_as b (option_or o (first_entry d (newer t n)))) here ∙ sym (ap (λ o. read_as b (option_or o (first_entry (column t key) (newer t n)))) own))
+        | inr more ↦ ap (read_as b) (same_first (column t key) d (fs ∷ newer t fs) (agrees 0 (omega arith))
+            (agrees fs (omega arith), each_above (λ x. d x ≡ column t key x) fs (map.keys t.filesets) (λ x above. agrees x (omega arith))))
+      ] in
+      subst (λ k. seen (with_entry t f key w) fs k ≡ seen t fs k) (sym same) at_key
+]
+
+-- The next older fileset takes a gone one's entry, and its readers see what they saw.
+pub moved_reads : (t : Table) (n g : ℕ) (key : Key) (h : Held) → 0 < n → IsSome (map.get t.filesets n) → newer t n ≡ g ∷ newer t g → column t key n ≡ None → column t key g ≡ Some h
+    → (fs : ℕ) (q : Key) → 0 < fs → seen (with_entry t n key (Some (pushed (keeps_data t n) (Some h)))) fs q ≡ seen t fs q
+moved_reads t n g key h above stands next none own = entry_reads t n key (Some (pushed (keeps_data t n) (Some h))) above stands (λ b keeps.
+    let d = column (with_entry t n key (Some (pushed (keeps_data t n) (Some h)))) key in
+    let here : d n ≡ Some (pushed (keeps_data t n) (Some h)) = column-with_entry t n key (Some (pushed (keeps_data t n) (Some h))) n ∙ grind (arith, nat_tests) in
+    ap (λ o. read_as b (option_or o (first_entry d (newer t n)))) here
+    ∙ pushed_reads b (keeps_data t n) (Some h) keeps
+    ∙ sym (ap (λ o. read_as b (option_or o (first_entry (column t key) (newer t n)))) none
+    ∙ ap (λ ids. read_as b (first_entry (column t key) ids)) next
+    ∙ ap (λ o. read_as b (option_or o (first_entry (column t key) (newer t g)))) own))

@@ -19,9 +19,9 @@ use Rattle.ck_model.specs.Rules.{IsOrderly, IsSound, IsNeeded}
 use Rattle.ck_table.specs.Names.{is_named, id_named}
 use Rattle.ck_table.specs.Added.{new_id, with_added}
 use Rattle.ck_table.specs.declared.added.AddFault.TheVariants.{Exists, TooMany, Spent}
-use Rattle.ck_table.proofs.Ids.{get-recorded, get-recorded_same, still_there, keys-insert_last, newer-has}
+use Rattle.ck_table.proofs.IdLaws.{get-recorded, get-recorded_same, still_there, keys-insert_last, newer-has}
 use Rattle.ck_table.proofs.NameLemmas.{unnamed}
-use Rattle.ck_table.proofs.Without.{IsWithout, newer-without, holder-without, keeps-without, seen-without, get-without, filter-others}
+use Rattle.ck_table.proofs.WithoutLaws.{IsWithout, newer-without, holder-without, keeps-without, seen-without, get-without, filter-others}
 use Rattle.ck_table.proofs.Sound.{Counts, sound_with, still_needed}
 
 -- the next id isn't in use

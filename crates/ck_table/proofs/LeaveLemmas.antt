@@ -15,8 +15,8 @@ use Rattle.ck_model.specs.Chain.{first_entry, present, value_of, is_live, is_gon
 use Rattle.ck_model.specs.World.{keeps_files}
 use Rattle.ck_model.specs.Rules.{IsSound, first_holder}
 use Rattle.ck_table.specs.Gone.{as_gone, with_gone}
-use Rattle.ck_table.proofs.Ids.{is_other, get-recorded, get-recorded_other, still_there, keys-insert_over, newer-has}
-use Rattle.ck_table.proofs.Without.{IsWithout, newer-without, value-without, holder-without, keeps-without, seen-without, filter-others, filter-dropped}
+use Rattle.ck_table.proofs.IdLaws.{is_other, get-recorded, get-recorded_other, still_there, keys-insert_over, newer-has}
+use Rattle.ck_table.proofs.WithoutLaws.{IsWithout, newer-without, value-without, holder-without, keeps-without, seen-without, filter-others, filter-dropped}
 use Rattle.ck_table.proofs.Sound.{Counts, sound_with, still_needed}
 
 stands_live : (t : Table) (x : ℕ) → is_live t x ≡ true → IsSome (map.get t.filesets x)

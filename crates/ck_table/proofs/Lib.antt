@@ -1,6 +1,6 @@
-pub mod Ids
+pub mod IdLaws
 pub mod NameLemmas
-pub mod Without
+pub mod WithoutLaws
 pub mod Sound
 pub mod AddLemmas
 pub mod LeaveLemmas

@@ -8,7 +8,7 @@ use Rattle.std.specs.FinMap as map
 use Rattle.ck_model.specs.declared.checkpoint.Fileset.{Fileset}
 use Rattle.ck_model.specs.Table.{Table, newer, IsTable}
 use Rattle.ck_table.specs.Names.{is_named, id_named}
-use Rattle.ck_table.proofs.Ids.{newer-has}
+use Rattle.ck_table.proofs.IdLaws.{newer-has}
 
 -- none of the elements passes a test that finds nothing
 none_passes : (test : ℕ → Bool) (xs : List ℕ) → find test xs ≡ None → (x : ℕ) → list_any (nat_eq x) xs ≡ true → test x ≡ false

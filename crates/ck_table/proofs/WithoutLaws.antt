@@ -11,7 +11,7 @@ use Rattle.ck_model.specs.World.{keeps_files}
 use Rattle.ck_model.specs.Table.{Table, Filesets, column, newer}
 use Rattle.ck_model.specs.Chain.{first_entry, present, value_of, is_live_data, keeps_data, as_mark, seen}
 use Rattle.ck_model.specs.Rules.{first_holder}
-use Rattle.ck_table.proofs.Ids.{is_other, keys-remove, get-recorded}
+use Rattle.ck_table.proofs.IdLaws.{is_other, keys-remove, get-recorded}
 
 -- ---- lists without one id
 

@@ -1,0 +1,11 @@
+pub mod Lists
+pub mod OldestLaws
+pub mod OlderLaws
+pub mod EachLaws
+pub mod MoveLaws
+pub mod SoundLaws
+pub mod FreeLaws
+pub mod LeftLaws
+pub mod ExtentLaws
+pub mod UnseenLaws
+pub mod RoomLaws
