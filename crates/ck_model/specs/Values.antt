@@ -1,5 +1,5 @@
 -- Maps from keys to what is held there, and the cells that they stand for over the data blocks of a device.
-use Rattle.std.specs.Prelude.{ℕ, List, Some, None, map as list_map}
+use Rattle.std.specs.Prelude.{ℕ, List, [], Some, None, map as list_map}
 use Rattle.std.specs.FinMap as map
 use Rattle.ck_model.specs.declared.key.Key.{Key}
 use Rattle.ck_model.specs.declared.cell.Cell.{Cell}
