@@ -1,5 +1,5 @@
 -- The calls that a script may have are those that a volume has.
-use Rattle.std.proofs.Common.{◌≡◌, ℕ, Bool, true, false, IsTrue, not, ◌&&◌, List, [], ◌∷◌, nat_eq, refl}
+use Rattle.std.proofs.Common.{◌≡◌, Bool, true, false, IsTrue, not, ◌&&◌, List, [], ◌∷◌, refl}
 use Rattle.std.specs.List.{AllByRecursion}
 use Rattle.ck_model.specs.declared.call.Call.{Call}
 use Rattle.ck_model.specs.declared.call.Call.TheVariants.{Make, Mkdir, Rm, Rmdir, Mv, Write, Fill, Trunc, Read, List as Ls, Stat, Create, Remove, Nodata, Removable, Ckpts, Mount, Umount, Cread, Clist, Restore, Backup, Full, Info, Sync}
@@ -42,15 +42,8 @@ built_call (Full letter) h valid within = cc
 built_call Info h valid within = tt
 built_call Sync h valid within = tt
 
-of_one : (actor : ℕ) (call : Call) → IsTrue (is_built (Called actor call)) → IsTrue (is_built_call call)
-of_one actor call h = step (nat_eq actor 1) (is_built_call call) h
-  where
-    step : (a b : Bool) → IsTrue (a && b) → IsTrue b
-    step true b h = h
-    step false b h = cc
-
 -- the lines of a script are built
 pub lines_built : (lines : List Line) → AllByRecursion (λ line. IsTrue (is_built (Called line.actor line.call))) lines → HaveValidNames lines → HavePlaces lines → AllByRecursion (λ line. IsBuilt line.call) lines
 lines_built [] all valid within = tt
 lines_built (line ∷ lines) all valid within =
-    (built_call line.call (of_one line.actor line.call all.0) valid.0 within.0, lines_built lines all.1 valid.1 within.1)
+    (built_call line.call all.0 valid.0 within.0, lines_built lines all.1 valid.1 within.1)

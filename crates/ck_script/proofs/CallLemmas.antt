@@ -1,9 +1,10 @@
 -- A call that names a checkpoint does so by a name that a checkpoint may have, and its places are within the limit of a
--- file's size.
-use Rattle.std.proofs.Common.{◌≡◌, ℕ, ◌≤◌, ◌&&◌, Bool, true, false, cond, not, List, [], ◌∷◌, Option, Some, None, IfSome, nat_eq, codes, refl, subst}
+-- file's size. Turns are of actors that there may be.
+use Rattle.std.proofs.Common.{◌≡◌, ℕ, ◌≤◌, ◌&&◌, Bool, true, false, cond, not, List, [], ◌∷◌, Option, Some, None, IfSome, nat_eq, codes, refl, subst, arith}
 use Rattle.std.specs.Bool.{Decides}
 use Rattle.std.specs.Option.{option_map, option_and_then}
 use Rattle.std.proofs.lemmas.Bool.Decides.{Decides-eqb}
+use Rattle.std.proofs.lemmas.List.Elements.{All-nil, All-cons}
 use Rattle.ck_model.specs.Limits.{file_limit}
 use Rattle.ck_model.specs.Name.{IsName, IsCheckpointName}
 use Rattle.ck_model.specs.declared.call.Call.{Call}
@@ -14,10 +15,11 @@ use Rattle.ck_script.specs.declared.verb.Verb.{Verb}
 use Rattle.ck_script.specs.declared.verb.Verb.TheVariants.{Make, Mkdir, Rm, Rmdir, Mv, Write, Fill, Trunc, Read, Ls, Stat, Create, Remove, Nodata, Removable, Ckpts, Mount, Umount, Cread, Cls, Restore, Backup, Full, Info, Sync}
 use Rattle.ck_script.specs.Arguments.{is_text, is_name, checkpoint_name, path_of, actor_of, place_of, fill_length, read_length, bytes_of, byte_of, letter_of, switch_of}
 use Rattle.ck_script.specs.Verb.{verb_of}
-use Rattle.ck_script.specs.Grammar.{path_alone, name_alone, letter_alone, alone, mv_of, write_of, fill_of, trunc_of, read_of, create_of, nodata_of, removable_of, mount_of, cread_of, cls_of, backup_of, call_with, call_of, turns_of, form_of}
+use Rattle.ck_script.specs.Grammar.{path_alone, name_alone, letter_alone, alone, mv_of, write_of, fill_of, trunc_of, read_of, create_of, nodata_of, removable_of, mount_of, cread_of, cls_of, backup_of, call_with, call_of, turn_of, turns_of, form_of}
+use Rattle.ck_script.specs.Limits.{AreTurns}
 use Rattle.ck_script.specs.Names.{HasValidName}
 use Rattle.ck_script.specs.Places.{HasPlaces}
-use Rattle.ck_script.proofs.FormLemmas.{up_to}
+use Rattle.ck_script.proofs.FormLemmas.{up_to, actor_is}
 use Rattle.ck_script.proofs.NameLemmas.{Decides-name}
 
 -- a word that is read as a checkpoint's name is one
@@ -45,6 +47,11 @@ module _ {Y : Type 0} (P : Y → Type 0) where
   followed : {X : Type 0} (f : X → Option Y) (o : Option X) → ((x : X) → IfSome (f x) P) → IfSome (option_and_then f o) P
   followed f None each = tt
   followed f (Some x) each = each x
+
+  -- the same where all that may be there has a property
+  followed_by : {X : Type 0} (Q : X → Type 0) (f : X → Option Y) (o : Option X) → IfSome o Q → ((x : X) → Q x → IfSome (f x) P) → IfSome (option_and_then f o) P
+  followed_by Q f None is each = tt
+  followed_by Q f (Some x) is each = each x is
 
   -- the same of a place that is read
   placed : (f : ℕ → Option Y) (word : List ℕ) → ((place : ℕ) → place ≤ file_limit → IfSome (f place) P) → IfSome (option_and_then f (place_of word)) P
@@ -205,21 +212,43 @@ call-kept : (words : List (List ℕ)) → IfKept (call_of words)
 call-kept [] = tt
 call-kept (verb ∷ words) = followed IsKept _ (verb_of verb) (λ verb. call_with-kept verb words)
 
--- so is a line's call
-abbrev pub HasKeptCall : Form → Type 0
-HasKeptCall (Called actor call) = IsKept call
-HasKeptCall (Turned turns) = Unit {0}
+-- a turn is the background's or an actor's
+turn-kept : (word : List ℕ) → IfSome (turn_of word) (λ turn. turn ≤ 64)
+turn-kept word =
+    chosen (λ turn. turn ≤ 64) (is_text word (codes "b")) (Some 0) (actor_of word) (omega arith)
+    (elim (actor_of word) as (λ o. actor_of word ≡ o → IfSome o (λ turn. turn ≤ 64)) [
+      | None ↦ λ e. tt
+      | Some actor ↦ λ e. (actor_is actor word e).1
+    ] refl)
 
-called-kept : (actor : ℕ) (o : Option Call) → IfKept o → IfSome (option_map (λ call. Called actor call) o) HasKeptCall
+one_more : (turn : ℕ) (o : Option (List ℕ)) → turn ≤ 64 → IfSome o AreTurns → IfSome (option_map (λ turns. turn ∷ turns) o) AreTurns
+one_more turn None within is = tt
+one_more turn (Some turns) within is = All-cons (λ turn. turn ≤ 64) turn turns within is
+
+turns-kept : (words : List (List ℕ)) → IfSome (turns_of words) AreTurns
+turns-kept [] = All-nil (λ turn. turn ≤ 64)
+turns-kept (word ∷ words) =
+    followed_by AreTurns (λ turn. turn ≤ 64) _ (turn_of word) (turn-kept word) (λ turn within. one_more turn (turns_of words) within (turns-kept words))
+
+-- so are a line's call and its turns
+abbrev pub IsKeptForm : Form → Type 0
+IsKeptForm (Called actor call) = IsKept call
+IsKeptForm (Turned turns) = AreTurns turns
+
+called-kept : (actor : ℕ) (o : Option Call) → IfKept o → IfSome (option_map (λ call. Called actor call) o) IsKeptForm
 called-kept actor None is = tt
 called-kept actor (Some call) is = is
 
-form-kept : (words : List (List ℕ)) → IfSome (form_of words) HasKeptCall
+turned-kept : (o : Option (List ℕ)) → IfSome o AreTurns → IfSome (option_map Turned o) IsKeptForm
+turned-kept None is = tt
+turned-kept (Some turns) is = is
+
+form-kept : (words : List (List ℕ)) → IfSome (form_of words) IsKeptForm
 form-kept [] = tt
 form-kept (first ∷ words) =
-    chosen HasKeptCall (is_text first (codes "turns")) _ _ (mapped HasKeptCall Turned (turns_of words) (λ turns. tt))
-    (followed HasKeptCall _ (actor_of first) (λ actor. called-kept actor (call_of words) (call-kept words)))
+    chosen IsKeptForm (is_text first (codes "turns")) _ _ (turned-kept (turns_of words) (turns-kept words))
+    (followed IsKeptForm _ (actor_of first) (λ actor. called-kept actor (call_of words) (call-kept words)))
 
--- the call that the words of a line stand for
-pub form_found-kept : (words : List (List ℕ)) (form : Form) → form_of words ≡ Some form → HasKeptCall form
-form_found-kept words form e = subst (λ o. IfSome o HasKeptCall) e (form-kept words)
+-- what the words of a line stand for
+pub form_found-kept : (words : List (List ℕ)) (form : Form) → form_of words ≡ Some form → IsKeptForm form
+form_found-kept words form e = subst (λ o. IfSome o IsKeptForm) e (form-kept words)

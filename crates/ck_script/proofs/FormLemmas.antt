@@ -20,7 +20,7 @@ tested false number found e = cc
 pub up_to : (limit found : ℕ) (word : List ℕ) → number_up_to limit word ≡ Some found → found ≤ limit
 up_to limit found word e = option_and_then_some _ _ found e (λ number _ rest. let both = tested (nat_le number limit) number found rest in grind (arith, nat_tests, both.0, both.1))
 
-actor_is : (found : ℕ) (word : List ℕ) → actor_of word ≡ Some found → (1 ≤ found) × (found ≤ 64)
+pub actor_is : (found : ℕ) (word : List ℕ) → actor_of word ≡ Some found → (1 ≤ found) × (found ≤ 64)
 actor_is found word e = option_and_then_some _ _ found e (λ number within rest.
     let both = tested (nat_le 1 number) number found rest in
     (grind (arith, nat_tests, both.0, both.1), subst (λ n. n ≤ 64) both.1 (up_to 64 number word within)))

@@ -1,11 +1,11 @@
--- What every script that is read keeps to: its numbers, its limits, what is built, the names of checkpoints, and places.
+-- What every script that is read keeps to: its numbers, its limits, what is built, the names of checkpoints, places, and turns.
 use Rattle.std.proofs.Common.{◌≡◌, ℕ, zero, suc, ◌+◌, ◌≤◌, Bool, true, false, cond, IsTrue, ◌&&◌, List, [], ◌∷◌, ◌++◌, length, Option, Some, None, Result, Ok, Err, All, nat_eq, nat_le, refl, sym, ap, subst, ◌∙◌, arith, length-append}
 use Rattle.std.specs.List.{AllByRecursion, range_with_len, cons_option, sum_by}
 use Rattle.std.specs.Option.{option_map_or, option_and_then}
 use Rattle.std.specs.Str.Lines.{lines}
 use Rattle.std.proofs.lemmas.Option.{option_and_then_some}
 use Rattle.std.proofs.lemmas.List.{append-nil}
-use Rattle.std.proofs.lemmas.List.Elements.{filter_map-append, All-push}
+use Rattle.std.proofs.lemmas.List.Elements.{filter_map-append, All-nil, All-append, All-push}
 use Rattle.std.proofs.lemmas.Bool.Decides.{nat_tests}
 use Rattle.ck_model.specs.declared.call.Call.{Call}
 use Rattle.ck_script.specs.declared.form.Form.{Form}
@@ -14,14 +14,14 @@ use Rattle.ck_script.specs.declared.line.Line.{Line}
 use Rattle.ck_text.specs.Words.{words_of}
 use Rattle.ck_script.specs.Grammar.{form_of}
 use Rattle.ck_script.specs.Built.{is_built}
-use Rattle.ck_script.specs.Limits.{are_within_limits, asked_by, streams_by, call_limit, length_limit, stream_limit, IsWithinLimits}
+use Rattle.ck_script.specs.Limits.{are_within_limits, asked_by, streams_by, call_limit, length_limit, stream_limit, IsWithinLimits, AreTurns}
 use Rattle.ck_script.specs.Names.{HasValidName, HaveValidNames}
 use Rattle.ck_script.specs.Places.{HasPlaces, HavePlaces}
 use Rattle.ck_script.specs.Numbered.{IsNumbered, numbers_in}
 use Rattle.ck_script.specs.Parsed.{Parsed, nothing_read, is_skipped, form_in, line_of, with_call, with_form, with_line, long_line, read_lines, read_script}
 use Rattle.ck_script.specs.Steps.{HasActor}
 use Rattle.ck_script.proofs.FormLemmas.{form_actor, built_found}
-use Rattle.ck_script.proofs.CallLemmas.{IsKept, HasKeptCall, form_found-kept}
+use Rattle.ck_script.proofs.CallLemmas.{IsKept, IsKeptForm, form_found-kept}
 
 -- what each line keeps holds of all that is read
 module _ (P : Parsed → Type 0) (keeps : (number : ℕ) (read more : Parsed) (line : List ℕ) → P read → with_line number read line ≡ Some more → P more) where
@@ -85,6 +85,7 @@ pub record IsRead (read : Parsed) : Type 0 where
   pub built : AllByRecursion (λ line. IsTrue (is_built (Called line.actor line.call))) read.calls
   pub names : HaveValidNames read.calls
   pub places : HavePlaces read.calls
+  pub turns : AreTurns read.turns
 
 all_more : (P : Line → Type 0) (lines : List Line) (line : Line) → AllByRecursion P lines → P line → AllByRecursion P (lines ++ line ∷ [])
 all_more P [] line all p = (p, tt)
@@ -106,16 +107,17 @@ call_keeps number read more actor call is within built kept e =
             built = all_more (λ line. IsTrue (is_built (Called line.actor line.call))) read.calls line is.built built;
             names = all_more (λ line. HasValidName line.call) read.calls line is.names kept.0;
             places = all_more (λ line. HasPlaces line.call) read.calls line is.places kept.1;
+            turns = is.turns;
           })
       | false ↦ λ limits e. cc
     ] refl e
 
-form_keeps : (number : ℕ) (read more : Parsed) (form : Form) → IsRead read → HasActor form → is_built form ≡ true → HasKeptCall form → with_form number read form ≡ Some more → IsRead more
+form_keeps : (number : ℕ) (read more : Parsed) (form : Form) → IsRead read → HasActor form → is_built form ≡ true → IsKeptForm form → with_form number read form ≡ Some more → IsRead more
 form_keeps number read more (Called actor call) is has built kept e = call_keeps number read more actor call is has built kept e
 form_keeps number read more (Turned turns) is has built kept e =
     let next : Parsed = record { calls = read.calls; turns = read.turns ++ turns } in
     let same : next ≡ more = cc in
-    subst IsRead same (record { numbered = is.numbered; limits = is.limits; actors = is.actors; built = is.built; names = is.names; places = is.places })
+    subst IsRead same (record { numbered = is.numbered; limits = is.limits; actors = is.actors; built = is.built; names = is.names; places = is.places; turns = All-append (λ turn. turn ≤ 64) read.turns turns is.turns kept })
 
 line_keeps : (number : ℕ) (read more : Parsed) (line : List ℕ) → IsRead read → with_line number read line ≡ Some more → IsRead more
 line_keeps number read more line is e =
@@ -127,7 +129,7 @@ line_keeps number read more line is e =
     ] e
 
 nothing_is_read : IsRead nothing_read
-nothing_is_read = record { numbered = λ actor. refl; limits = refl; actors = λ k d h. absurd (omega (arith, h)); built = tt; names = tt; places = tt }
+nothing_is_read = record { numbered = λ actor. refl; limits = refl; actors = λ k d h. absurd (omega (arith, h)); built = tt; names = tt; places = tt; turns = All-nil (λ turn. turn ≤ 64) }
 
 pub script_is_read : (bytes : List ℕ) (read : Parsed) → read_script bytes ≡ Ok read → IsRead read
 script_is_read bytes read e = read_keeps IsRead line_keeps (long_line bytes) 1 nothing_read read _ nothing_is_read e

@@ -1,5 +1,5 @@
 -- What is built of the grammar today. Every other line is refused.
-use Rattle.std.specs.Prelude.{◌&&◌, Bool, true, false, not, nat_eq}
+use Rattle.std.specs.Prelude.{◌&&◌, Bool, true, false, not}
 use Rattle.ck_model.specs.declared.call.Call.{Call}
 use Rattle.ck_model.specs.declared.call.Call.TheVariants.{Create, Nodata, Removable, Restore, Backup, Full}
 use Rattle.ck_script.specs.declared.form.Form.{Form}
@@ -15,7 +15,7 @@ is_built_call (Backup letter later) = false
 is_built_call (Full letter) = false
 is_built_call _ = true
 
--- such a call of actor 1
+-- such a call of any actor, and all turns
 abbrev pub is_built : Form → Bool
-is_built (Called actor call) = nat_eq actor 1 && is_built_call call
-is_built (Turned turns) = false
+is_built (Called actor call) = is_built_call call
+is_built (Turned turns) = true

@@ -41,3 +41,7 @@ pub record IsWithinLimits (lines : List Line) : Type 0 where
   pub lengths : sum_by (λ line. asked_by line.call) lines ≤ length_limit
   pub streams : sum_by (λ line. streams_by line.call) lines ≤ stream_limit
   pub actors : All (λ line. (1 ≤ line.actor) × (line.actor ≤ 64)) lines
+
+-- each turn is the background's, which is 0, or that of an actor from 1 to 64
+abbrev pub AreTurns : List ℕ → Type 0
+AreTurns turns = All (λ turn. turn ≤ 64) turns

@@ -39,8 +39,8 @@ fn is_built(form: &Form) -> bool
     ensures { result ≡ built form.now }
 {
     match form {
-        Form::Called(actor, call) => *actor == 1 && is_built_call(call),
-        Form::Turned(_) => false,
+        Form::Called(_, call) => is_built_call(call),
+        Form::Turned(_) => true,
     }
 }
 

@@ -1,4 +1,4 @@
-ghost use Rattle.ck_script.specs.Limits.{IsWithinLimits};
+ghost use Rattle.ck_script.specs.Limits.{IsWithinLimits, AreTurns};
 ghost use Rattle.ck_script.specs.Numbered.{IsNumbered};
 
 use crate::{Lines, Turns};
@@ -11,4 +11,5 @@ pub struct Script {
     /// Each actor's calls are numbered from 1, in the order of their lines.
     pub ghost numbered: { IsNumbered calls },
     pub ghost within: { IsWithinLimits calls },
+    pub ghost actors: { AreTurns turns },
 }

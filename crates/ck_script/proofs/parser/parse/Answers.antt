@@ -3,7 +3,7 @@ use Rattle.std.specs.List.{AllByRecursion}
 use Rattle.std.proofs.lemmas.Result.{err_from_is_err_and}
 use Rattle.ck_script.specs.declared.form.Form.TheVariants.{Called}
 use Rattle.ck_script.specs.Built.{is_built}
-use Rattle.ck_script.specs.Limits.{IsWithinLimits}
+use Rattle.ck_script.specs.Limits.{IsWithinLimits, AreTurns}
 use Rattle.ck_script.specs.Names.{HaveValidNames}
 use Rattle.ck_script.specs.Places.{HavePlaces}
 use Rattle.ck_script.specs.Numbered.{IsNumbered}
@@ -26,7 +26,8 @@ invariant_of-result c =
     read_script-is c.args.bytes.now c.within_limit.result.now c.long_line.result c.long_line.ensures c.within_limit.ensures.text ∙ c.in_ok-tally.ensures.read in
     let is : IsRead tally = script_is_read c.args.bytes.now tally read in
     let calls = sym (c.of.ensures ∙ c.into_parts-lines.ensures.calls) in
-    record { numbered = subst IsNumbered calls is.numbered; within = subst IsWithinLimits calls (read_within tally is) }
+    let turns = sym c.into_parts-lines.ensures.turns in
+    record { numbered = subst IsNumbered calls is.numbered; within = subst IsWithinLimits calls (read_within tally is); actors = subst AreTurns turns is.turns }
 
 pub returns-clause-built : goal.returns-clause-built
 returns-clause-built c =
