@@ -1,0 +1,2 @@
+//! Actors: whose call each turn of a script works on.
+#![tactic(auto)]
