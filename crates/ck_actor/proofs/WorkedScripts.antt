@@ -1,21 +1,21 @@
 -- Histories that follow their scripts, and one that doesn't.
-use Rattle.std.proofs.Common.{◌≡◌, ◌≤◌, ℕ, ◌+◌, ◌&&◌, Bool, true, false, cond, List, [], ◌∷◌, ◌++◌, length, nat_eq, codes, refl, arith}
+use Rattle.std.proofs.Common.{◌≡◌, ◌≤◌, ℕ, ◌+◌, ◌&&◌, Bool, true, false, cond, List, [], ◌∷◌, ◌++◌, length, nat_eq, codes, refl, ap, arith}
 use Rattle.std.specs.Prelude.{replicate}
-use Rattle.std.specs.List.{AllByRecursion}
+use Rattle.std.specs.List.{AllByRecursion, slice_index_or}
 use Rattle.ck_laws.specs.Laws.{frozen}
 use Rattle.ck_model.specs.declared.call.Call.{Call}
-use Rattle.ck_model.specs.declared.call.Call.TheVariants.{Make, Rm, Write, Fill, Trunc, Create, Remove, Mount, Cread, List as Ls, Info as Counted, Sync}
+use Rattle.ck_model.specs.declared.call.Call.TheVariants.{Make, Rm, Write, Fill, Create, Remove, Mount, Cread, Info as Counted, Sync}
 use Rattle.ck_model.specs.declared.entry.Entry.{Entry}
 use Rattle.ck_model.specs.declared.reply.Reply.{Reply}
-use Rattle.ck_model.specs.declared.reply.Reply.TheVariants.{Done, Bytes, Names, Created, Info, Gone}
+use Rattle.ck_model.specs.declared.reply.Reply.TheVariants.{Done, Bytes, Created, Info}
 use Rattle.ck_model.specs.History.{begun, call_at}
 use Rattle.ck_model.specs.Streams.{Texts}
-use Rattle.ck_model.specs.World.{World, empty_world}
+use Rattle.ck_model.specs.World.{World}
 use Rattle.ck_script.specs.declared.line.Line.{Line}
 use Rattle.ck_script.specs.Numbered.{calls_in}
 use Rattle.ck_script.specs.Parsed.{Parsed, line_of}
 use Rattle.ck_actor.specs.Counts.{TurnCounts}
-use Rattle.ck_actor.specs.Turns.{Follows}
+use Rattle.ck_actor.specs.Turns.{Follows, at_first, answered_by}
 use Rattle.ck_actor.proofs.CountLemmas.{TakesAnywhere, take_anywhere}
 
 -- these calls behind the lines before them
@@ -112,3 +112,29 @@ long_read_follows texts w =
       taken = take_anywhere texts calls maps three_for_it (begun w) by_long_read each;
       order = refl;
     }
+
+-- ---- what doesn't follow
+
+-- the actor of the call at a place
+abbrev actor_at : ℕ → List (ℕ × ℕ) → ℕ
+actor_at place calls = (slice_index_or calls place (0, 0)).0
+
+-- the calls in the order of their lines, where the turns have another
+abbrev crossed : Parsed
+crossed = script_of ((1, Sync) ∷ (2, Sync) ∷ []) (2 ∷ 1 ∷ [])
+
+pub lines_do_not_follow : (texts : Texts) (w : World) → Follows texts crossed w (entry 1 1 Done ∷ entry 2 1 Done ∷ []) → ⊥
+lines_do_not_follow texts w follows = refused follows.counts (follows.taken.1.0.told refl) follows.order
+  where
+    refused : (counts : TurnCounts) → counts 2 1 ≡ 1 → (1, 1) ∷ (2, 1) ∷ [] ≡ answered_by crossed.calls counts at_first crossed.turns → ⊥
+    refused counts two = rw two (λ same. let actors : ◌≡◌ {A = ℕ} 1 2 = ap (actor_at 0) same in omega (arith, actors))
+
+-- a read of three blocks that is answered at its first turn
+abbrev crossed_read : Parsed
+crossed_read = script_of ((1, Cread 120 (file (codes "a")) 4095 4098) ∷ (2, Sync) ∷ []) (1 ∷ 2 ∷ [])
+
+pub whole_read_does_not_follow : (texts : Texts) (w : World) → Follows texts crossed_read w (entry 1 1 (Bytes (replicate 4098 97)) ∷ entry 2 1 Done ∷ []) → ⊥
+whole_read_does_not_follow texts w follows = refused follows.counts (follows.taken.0.told refl) (follows.taken.1.0.told refl) follows.order
+  where
+    refused : (counts : TurnCounts) → counts 1 1 ≡ 3 → counts 2 1 ≡ 1 → (1, 1) ∷ (2, 1) ∷ [] ≡ answered_by crossed_read.calls counts at_first crossed_read.turns → ⊥
+    refused counts three one = rw (three, one) (λ same. let actors : ◌≡◌ {A = ℕ} 1 2 = ap (actor_at 0) same in omega (arith, actors))

@@ -1,5 +1,5 @@
 -- How many turns of its actor a call takes.
-use Rattle.std.specs.Prelude.{◌≡◌, ◌≤◌, ⊤, ℕ, ◌+◌, ◌-◌, Bool, false, List, [], ◌∷◌, length, min, max, Option, Some, None, MatchBool, MatchOption, IsSomeAnd, nat_lt, if◌then◌else◌}
+use Rattle.std.specs.Prelude.{◌≡◌, ◌≤◌, ⊤, ℕ, ◌+◌, ◌-◌, Bool, false, List, [], ◌∷◌, length, min, max, Option, Some, None, MatchOption, IsSomeAnd, nat_lt, if◌then◌else◌}
 use Rattle.std.specs.Option.{option_and_then}
 use Rattle.std.specs.Result.{result_ok}
 use Rattle.std.specs.FinMap as map
@@ -40,8 +40,8 @@ FrozenMaps = ℕ → Option Cells
 abbrev pub frozen_on : FrozenMaps → World → ℕ → ℕ → Option Cells
 frozen_on frozen w actor letter = option_and_then frozen (map.get w.mounts (actor, letter))
 
--- The turns that a read of frozen maps takes to its end. There are none where a letter isn't mounted, the path is no file of the
--- checkpoint, or a backup's first id is above its second; and none are read by any other call.
+-- The turns that a read of frozen maps takes to its end. None where a letter isn't mounted, the path is no file of the
+-- checkpoint, or a backup's first id is above its second, and for every other call.
 abbrev pub frozen_turns : FrozenMaps → World → ℕ → Call → Option ℕ
 frozen_turns frozen w actor (Cread letter path at len) = do
   cells ← frozen_on frozen w actor letter
@@ -63,12 +63,14 @@ abbrev pub may_go_on : Call → Reply → Bool
 may_go_on (Nodata name synchronous) Done = synchronous
 may_go_on _ _ = false
 
--- How many turns a call with this reply takes: at least one; as many as the reply tells; where it tells none, a read at the most
--- those of the frozen maps, and every other call one.
-abbrev pub Takes : Option ℕ → Call → Reply → ℕ → Type 0
-Takes frozen call reply count =
-    (1 ≤ count)
-    × MatchBool (may_go_on call reply) ⊤ (MatchOption (told_turns call reply) (MatchOption frozen (count ≡ 1) (λ most. count ≤ most)) (λ told. count ≡ told))
+-- up to as many as the frozen maps have, and one where they have none
+abbrev pub AsFrozen : Option ℕ → ℕ → Type 0
+AsFrozen frozen count = MatchOption frozen (count ≡ 1) (λ most. count ≤ most)
+
+-- how many turns a call with this reply may take
+pub record Takes (frozen : Option ℕ) (call : Call) (reply : Reply) (count : ℕ) : Type 0 where
+  pub some : 1 ≤ count
+  pub told : may_go_on call reply ≡ false → MatchOption (told_turns call reply) (AsFrozen frozen count) (λ turns. count ≡ turns)
 
 -- each entry's call takes as many turns as it may
 abbrev pub TakeTurns : Texts → CallsBy → FrozenMaps → TurnCounts → Past → List Entry → Type 0
