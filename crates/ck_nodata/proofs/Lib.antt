@@ -1,0 +1,4 @@
+pub mod MarkLemmas
+pub mod CountLemmas
+pub mod WorkLemmas
+pub mod StripLemmas
