@@ -2,7 +2,7 @@
 use Rattle.std.proofs.Common.{◌≡◌, ◌≢◌, ◌↔◌, ℕ, ◌+◌, ◌<◌, Bool, true, false, List, ◌∷◌, inl, inr, Option, Some, None, IsSome, refl, sym, ap, subst, ◌∙◌, arith}
 use Rattle.std.specs.Option.{option_map, option_or}
 use Rattle.std.specs.FinMap as map
-use Rattle.std.proofs.lemmas.Bool.{cases_lt, false≢true, true≢false}
+use Rattle.std.proofs.lemmas.Bool.{cases_lt, false≢true}
 use Rattle.std.proofs.lemmas.Bool.Decides.{nat_tests}
 use Rattle.ck_model.specs.declared.key.Key.{Key}
 use Rattle.ck_model.specs.declared.held.Held.{Held}
@@ -11,7 +11,7 @@ use Rattle.ck_model.specs.Table.{Table, IsTable, column, newer, record_count, wi
 use Rattle.ck_model.specs.Chain.{first_entry, is_live, keeps_data, seen}
 use Rattle.ck_model.specs.Rules.{IsNeeded, IsOrderly, IsSound, first_holder}
 use Rattle.ck_model.specs.TableWorld.{extent_count}
-use Rattle.ck_model.proofs.CaseLaws.{none_some, some_same, true_or_false}
+use Rattle.ck_model.proofs.CaseLaws.{none_some, true_or_false}
 use Rattle.ck_chain.specs.Fits.{Fits}
 use Rattle.ck_chain.specs.Kept.{read_as}
 use Rattle.ck_chain.specs.Named.{IsNamed, block_of, one_of}

@@ -1,5 +1,5 @@
 -- What a strip makes of a table.
-use Rattle.std.proofs.Common.{◌≡◌, ℕ, ◌<◌, true, ◌&&◌, not, Option, Some, is_some, refl, sym, ap, subst, ◌∙◌, arith}
+use Rattle.std.proofs.Common.{◌≡◌, ℕ, true, not, Option, Some, is_some, refl, sym, ap, ◌∙◌, arith}
 use Rattle.std.specs.Option.{option_map}
 use Rattle.ck_model.specs.declared.key.Key.{Key}
 use Rattle.ck_model.specs.declared.held.Held.{Held}
@@ -12,7 +12,7 @@ use Rattle.ck_chain.proofs.OrderlyLaws.{positive_id}
 use Rattle.ck_chain.proofs.ReadLaws.{live_stands}
 use Rattle.ck_nodata.specs.declared.item.StripItem.{StripItem}
 use Rattle.ck_nodata.specs.StripItem.{drops_data, is_extent, is_unstripped}
-use Rattle.ck_nodata.specs.Stripped.{IsStrip, stripped}
+use Rattle.ck_nodata.specs.Stripped.{IsStrip}
 use Rattle.ck_nodata.proofs.CountLemmas.{one_fewer}
 use Rattle.ck_nodata.proofs.MarkLemmas.{IsExtent, marked_freed, marked_sound, marked_unseen}
 

@@ -1,5 +1,5 @@
 -- The first data block that is left to strip.
-use Rattle.std.proofs.Common.{◌≡◌, ℕ, ◌<◌, Bool, true, false, cond, ◌&&◌, ◌||◌, not, List, [], ◌∷◌, ◌++◌, filter, find, inl, inr, Option, Some, None, is_some, IsSome, IfSome, if◌then◌else◌, refl, sym, ap, subst, ◌∙◌, arith}
+use Rattle.std.proofs.Common.{◌≡◌, ℕ, Bool, true, false, cond, ◌&&◌, ◌||◌, not, List, [], ◌∷◌, ◌++◌, filter, find, inl, inr, Option, Some, None, is_some, IsSome, IfSome, IfNone, if◌then◌else◌, refl, sym, ap, ◌∙◌, arith}
 use Rattle.std.specs.declared.cmp.Ordering.{Ordering}
 use Rattle.std.specs.declared.cmp.Ordering.TheVariants.{Less, Equal, Greater}
 use Rattle.std.specs.Ordering.{eq_by_cmp, is_eq}
@@ -8,7 +8,6 @@ use Rattle.std.specs.FinMap as map
 use Rattle.std.proofs.lemmas.Bool.{and_from, false≢true}
 use Rattle.ck_model.specs.declared.key.Key.{Key}
 use Rattle.ck_model.specs.declared.held.Held.{Held}
-use Rattle.ck_model.specs.declared.held.Held.TheVariants.{Absent, Plain, Extent, Mark}
 use Rattle.ck_model.specs.Key.{key_cmp, key_cmp_exact}
 use Rattle.ck_model.specs.Rows.{row_of}
 use Rattle.ck_model.specs.Table.{Table, IsTable, column, keys_in, newer}
@@ -76,18 +75,20 @@ no_image : {X Y : Type 0} (f : X → Y) (o : Option X) → option_map f o ≡ No
 no_image f None h = refl
 no_image f (Some x) h = absurd (none_some (f x) (sym h))
 
+abbrev item_at : ℕ → Key → StripItem
+item_at fs key = record { id = fs; key = key }
+
 -- where nothing is stripped of a checkpoint that drops data, it has no data block
 none_in : (t : Table) (fs : ℕ) → drops_data t fs ≡ true → strip_in t fs None ≡ None → (q : Key) → is_extent (column t q fs) ≡ false
 none_in t fs drops none =
-    let item = λ (key : Key). (record { id = fs; key = key } : StripItem) in
-    none_first t fs (no_image item (first_extent t fs None) (sym (ap (λ (b : Bool). if b then option_map item (first_extent t fs None) else None) drops) ∙ none))
+    none_first t fs (no_image (item_at fs) (first_extent t fs None) (sym (ap (λ (b : Bool). if b then option_map (item_at fs) (first_extent t fs None) else None) drops) ∙ none))
 
 pub strip_in_is : (t : Table) (fs : ℕ) (after : Option Key) → IfSome (strip_in t fs after) (λ item. is_unstripped t item.id item.key ≡ true)
 strip_in_is t fs after =
-    elim (drops_data t fs) as (λ b. drops_data t fs ≡ b → IfSome (if b then option_map (λ key. record { id = fs; key = key }) (first_extent t fs after) else None) (λ item. is_unstripped t item.id item.key ≡ true)) [
+    elim (drops_data t fs) as (λ b. drops_data t fs ≡ b → IfSome (if b then option_map (item_at fs) (first_extent t fs after) else None) (λ item. is_unstripped t item.id item.key ≡ true)) [
       | false ↦ λ _. tt
       | true ↦ λ drops.
-          elim (first_extent t fs after) as (λ o. IfSome o (λ key. is_extent (column t key fs) ≡ true) → IfSome (option_map (λ key. record { id = fs; key = key }) o) (λ item. is_unstripped t item.id item.key ≡ true)) [
+          elim (first_extent t fs after) as (λ o. IfSome o (λ key. is_extent (column t key fs) ≡ true) → IfSome (option_map (item_at fs) o) (λ item. is_unstripped t item.id item.key ≡ true)) [
             | None ↦ λ _. tt
             | Some key ↦ λ extent. and_from (drops_data t fs) (is_extent (column t key fs)) drops extent
           ] (found_passes (λ key. is_extent (column t key fs)) _)
@@ -116,7 +117,7 @@ none_among t fs [] ys none = (neither (strip_in t fs None) (first_strip t ys) no
 none_among t fs (x ∷ xs) ys none = none_among t fs xs ys (neither (strip_in t x None) (first_strip t (xs ++ fs ∷ ys)) none).1
 
 -- where there is no work, nothing is left to strip
-pub none_left : (t : Table) → IsTable t → strip_work_of t ≡ None → (fs : ℕ) (key : Key) → is_unstripped t fs key ≡ false
+none_left : (t : Table) → IsTable t → strip_work_of t ≡ None → (fs : ℕ) (key : Key) → is_unstripped t fs key ≡ false
 none_left t lawful none fs key =
     true_or_false (is_unstripped t fs key) (λ left.
     let drops = and_left (drops_data t fs) (is_extent (column t key fs)) left in
@@ -125,6 +126,13 @@ none_left t lawful none fs key =
     let least = positive_id t fs lawful stands in
     let here = none_among t fs (filter (in_between 0 fs) (map.keys t.filesets)) (newer t fs) (sym (ap (first_strip t) (newer_split t 0 fs (omega (arith, least)) stands)) ∙ none) in
     false≢true (sym (none_in t fs drops here key) ∙ extent))
+
+pub no_work : (t : Table) → IsTable t → IfNone (strip_work_of t) ((fs : ℕ) (key : Key) → is_unstripped t fs key ≡ false)
+no_work t lawful =
+    elim (strip_work_of t) as (λ o. strip_work_of t ≡ o → IfNone o ((fs : ℕ) (key : Key) → is_unstripped t fs key ≡ false)) [
+      | None ↦ λ none. none_left t lawful none
+      | Some item ↦ λ _. tt
+    ] refl
 
 -- ---- a checkpoint that is through
 
@@ -140,11 +148,11 @@ through_where_none t fs live none =
 
 pub none_where_through : (t : Table) (fs : ℕ) → IsThrough t fs → strip_in t fs None ≡ None
 none_where_through t fs through = elim through [
-  | inl keeps ↦ ap (λ (b : Bool). if b then option_map (λ key. record { id = fs; key = key }) (first_extent t fs None) else None) (keeping_is_through t fs keeps)
+  | inl keeps ↦ ap (λ (b : Bool). if b then option_map (item_at fs) (first_extent t fs None) else None) (keeping_is_through t fs keeps)
   | inr bare ↦
       let none : first_extent t fs None ≡ None = none_found (λ key. is_extent (column t key fs)) (keys_in t fs) bare in
-      elim (drops_data t fs) as (λ b. (if b then option_map (λ key. record { id = fs; key = key }) (first_extent t fs None) else None) ≡ None) [
-        | true ↦ ap (option_map (λ key. record { id = fs; key = key })) none
+      elim (drops_data t fs) as (λ b. (if b then option_map (item_at fs) (first_extent t fs None) else None) ≡ None) [
+        | true ↦ ap (option_map (item_at fs)) none
         | false ↦ refl
       ]
 ]

@@ -15,7 +15,7 @@ abbrev pub stripped : Table → StripItem → Table
 stripped t item = with_entry t item.id item.key (option_map as_mark (column t item.key item.id))
 
 -- what a strip makes of a table, and the data block that it frees
-pub record IsStrip (old new : Table) (item : StripItem) (freed : Freed) : Type 0 where
+pub record IsStrip (old new : Table) (item : StripItem) (result : Freed) : Type 0 where
   pub table : new ≡ stripped old item
   -- every reader of the primary or of a checkpoint that isn't gone sees what it saw, and nothing is more than it was
   pub unseen : IsUnseen old new
@@ -23,7 +23,7 @@ pub record IsStrip (old new : Table) (item : StripItem) (freed : Freed) : Type 0
   -- one fewer is left to strip
   pub left : unstripped_count new + 1 ≡ unstripped_count old
   -- the data block that nothing names any more
-  pub freed : IsFreed old new freed
+  pub freed : IsFreed old new result
 
 -- nothing of the checkpoint is stripped: it keeps data, or has no data block of its own
 abbrev pub IsThrough : Table → ℕ → Type 0

@@ -2,7 +2,7 @@
 #![tactic(auto)]
 
 mod item;
-mod strip;
+mod marks;
 
 pub use item::{StripItem, strip_work};
-pub use strip::{strip, strip_one};
+pub use marks::{strip, strip_one};
