@@ -1,11 +1,9 @@
 -- Nobody sees a step of a removal who reads the primary or a checkpoint that isn't gone.
-use Rattle.std.proofs.Common.{◌≡◌, ℕ, ◌+◌, true, false, cond, Some, None, nat_eq, refl, sym, ap, ◌∙◌, arith}
-use Rattle.std.specs.Option.{option_map_or}
+use Rattle.std.proofs.Common.{◌≡◌, ℕ, ◌+◌, true, false, cond, ◌⊎◌, inl, inr, Some, None, nat_eq, refl, sym, ap, ◌∙◌, arith}
 use Rattle.std.specs.FinMap as map
-use Rattle.std.proofs.lemmas.Bool.{eqb-true, false≢true, true≢false, false_from_ne_true}
+use Rattle.std.proofs.lemmas.Bool.{eqb-true, true≢false, false_from_ne_true}
 use Rattle.ck_model.specs.declared.key.Key.{Key}
 use Rattle.ck_model.specs.declared.held.Held.{Held}
-use Rattle.ck_model.specs.declared.checkpoint.Fileset.{Fileset}
 use Rattle.ck_model.specs.Table.{Table, IsTable, column, record_count, with_fileset}
 use Rattle.ck_model.specs.Chain.{is_gone, seen}
 use Rattle.ck_chain.proofs.ReadLaws.{live_stands}
@@ -35,7 +33,7 @@ unseen_without t g key h lawful oldest at =
           each_primary u key ids positive (older_live t g) q
           ∙ moved_elsewhere t g key h lawful at 0 (λ e. absurd (omega (arith, e, above))) (λ n next e. let least = next.above in absurd (omega (arith, e, least))) q;
       filesets = λ fs kept. refl;
-      gone = λ fs gone. refl;
+      gone = λ fs gone. inl refl;
       counters = refl;
       blocks = refl;
       limit = refl;
@@ -51,8 +49,11 @@ unseen_unlinked t g gone same count = record {
   seen = λ fs key live. same fs key;
   primary = λ key. refl;
   filesets = λ fs kept. get-recorded_other t.filesets g None fs (false_from_ne_true (nat_eq fs g) (λ e. true≢false (sym gone ∙ ap (is_gone t) (sym (eqb-true fs g e)) ∙ kept)));
-  gone = λ fs still. get-recorded_other t.filesets g None fs (false_from_ne_true (nat_eq fs g) (λ e.
-      false≢true (sym (ap (λ o. option_map_or (λ (f : Fileset). f.gone) o false) (get-recorded t.filesets g None fs ∙ ap (λ b. cond b None (map.get t.filesets fs)) e)) ∙ still)));
+  gone = λ fs gone.
+      elim (nat_eq fs g) as (λ b. nat_eq fs g ≡ b → (map.get (with_fileset t g None).filesets fs ≡ map.get t.filesets fs) ⊎ (map.get (with_fileset t g None).filesets fs ≡ None)) [
+        | true ↦ λ e. inr (get-recorded t.filesets g None fs ∙ ap (λ b. cond b None (map.get t.filesets fs)) e)
+        | false ↦ λ other. inl (get-recorded_other t.filesets g None fs other)
+      ] refl;
   counters = refl;
   blocks = refl;
   limit = refl;
