@@ -140,7 +140,7 @@ module _ (t : Table) (f : ℕ) (key : Key) (stamp block : ℕ) (is : IsExtent t 
           | inr same ↦ same
         ];
         filesets = λ fs kept. refl;
-        gone = λ fs gone. refl;
+        gone = λ fs gone. inl refl;
         counters = refl;
         blocks = refl;
         limit = refl;

@@ -10,6 +10,7 @@ use Rattle.ck_model.specs.Rules.{IsSound, block_in}
 use Rattle.ck_model.proofs.CaseLaws.{and_left, and_right, not_true}
 use Rattle.ck_chain.proofs.OrderlyLaws.{positive_id}
 use Rattle.ck_chain.proofs.ReadLaws.{live_stands}
+use Rattle.ck_remove.proofs.WorldLaws.{unseen_world}
 use Rattle.ck_nodata.specs.declared.item.StripItem.{StripItem}
 use Rattle.ck_nodata.specs.StripItem.{drops_data, is_extent, is_unstripped}
 use Rattle.ck_nodata.specs.Stripped.{IsStrip}
@@ -29,23 +30,24 @@ left_is t fs key stamp block lawful left at =
       above = omega (arith, least);
     }
 
-pub strip_is : (t : Table) (item : StripItem) (held : Held) → IsTable t → IsSound t → is_unstripped t item.id item.key ≡ true → column t item.key item.id ≡ Some held
+pub strip_is : (t : Table) (item : StripItem) (held : Held) → IsTable t → IsTable (with_entry t item.id item.key (Some (as_mark held))) → IsSound t → is_unstripped t item.id item.key ≡ true → column t item.key item.id ≡ Some held
     → IsStrip t (with_entry t item.id item.key (Some (as_mark held))) item (record { block = block_in held })
-strip_is t item held lawful sound left at = cases held at (sym (ap is_extent at) ∙ and_right (drops_data t item.id) (is_extent (column t item.key item.id)) left)
+strip_is t item held lawful again sound left at = cases held at again (sym (ap is_extent at) ∙ and_right (drops_data t item.id) (is_extent (column t item.key item.id)) left)
   where
-    extent : (stamp block : ℕ) → column t item.key item.id ≡ Some (Extent stamp block) → IsStrip t (with_entry t item.id item.key (Some (Mark stamp))) item (record { block = Some block })
-    extent stamp block at =
+    extent : (stamp block : ℕ) → column t item.key item.id ≡ Some (Extent stamp block) → IsTable (with_entry t item.id item.key (Some (Mark stamp))) → IsStrip t (with_entry t item.id item.key (Some (Mark stamp))) item (record { block = Some block })
+    extent stamp block at after =
         let is = left_is t item.id item.key stamp block lawful left at in
         record {
           table = ap (λ (o : Option Held). with_entry t item.id item.key (option_map as_mark o)) (sym at);
+          world = unseen_world t (with_entry t item.id item.key (Some (Mark stamp))) lawful after (marked_unseen t item.id item.key stamp block is lawful);
           unseen = marked_unseen t item.id item.key stamp block is lawful;
           sound = marked_sound t item.id item.key stamp block is sound;
           left = one_fewer t item.id item.key (Some (Mark stamp)) left (ap is_some at) refl;
           freed = marked_freed t item.id item.key stamp block is sound.orderly;
         }
 
-    cases : (held : Held) → column t item.key item.id ≡ Some held → is_extent (Some held) ≡ true → IsStrip t (with_entry t item.id item.key (Some (as_mark held))) item (record { block = block_in held })
-    cases Absent at h = cc
-    cases (Plain stamp small) at h = cc
-    cases (Extent stamp block) at h = extent stamp block at
-    cases (Mark stamp) at h = cc
+    cases : (held : Held) → column t item.key item.id ≡ Some held → IsTable (with_entry t item.id item.key (Some (as_mark held))) → is_extent (Some held) ≡ true → IsStrip t (with_entry t item.id item.key (Some (as_mark held))) item (record { block = block_in held })
+    cases Absent at after h = cc
+    cases (Plain stamp small) at after h = cc
+    cases (Extent stamp block) at after h = extent stamp block at after
+    cases (Mark stamp) at after h = cc

@@ -3,17 +3,20 @@ use Rattle.std.proofs.Common.{◌≡◌, ℕ, Bool, true, false, cond, ◌&&◌,
 use Rattle.std.specs.declared.cmp.Ordering.{Ordering}
 use Rattle.std.specs.declared.cmp.Ordering.TheVariants.{Less, Equal, Greater}
 use Rattle.std.specs.Ordering.{eq_by_cmp, is_eq}
-use Rattle.std.specs.Option.{option_map, option_or}
+use Rattle.std.specs.Option.{option_map, option_map_or, option_or}
 use Rattle.std.specs.FinMap as map
 use Rattle.std.proofs.lemmas.Bool.{and_from, false≢true}
 use Rattle.ck_model.specs.declared.key.Key.{Key}
+use Rattle.ck_model.specs.declared.checkpoint.Fileset.{Fileset}
 use Rattle.ck_model.specs.declared.held.Held.{Held}
 use Rattle.ck_model.specs.Key.{key_cmp, key_cmp_exact}
 use Rattle.ck_model.specs.Rows.{row_of}
 use Rattle.ck_model.specs.Table.{Table, IsTable, column, keys_in, newer}
 use Rattle.ck_model.specs.TableWorld.{is_among}
 use Rattle.ck_model.specs.Chain.{is_live, keeps_data}
-use Rattle.ck_model.proofs.CaseLaws.{and_left, and_right, none_some, true_or_false}
+use Rattle.ck_model.specs.Placed.{AllStripped, NoneGone}
+use Rattle.ck_model.specs.Rules.{IsOrderly}
+use Rattle.ck_model.proofs.CaseLaws.{and_left, and_right, none_some, some_is, true_or_false}
 use Rattle.ck_model.proofs.RowLaws.{find-row_of}
 use Rattle.ck_chain.specs.Needless.{in_between}
 use Rattle.ck_chain.proofs.NewerLaws.{newer_split}
@@ -131,6 +134,26 @@ pub no_work : (t : Table) → IsTable t → IfNone (strip_work_of t) ((fs : ℕ)
 no_work t lawful =
     elim (strip_work_of t) as (λ o. strip_work_of t ≡ o → IfNone o ((fs : ℕ) (key : Key) → is_unstripped t fs key ≡ false)) [
       | None ↦ λ none. none_left t lawful none
+      | Some item ↦ λ _. tt
+    ] refl
+
+-- and where none is gone either, only the primary and checkpoints that keep data name data blocks
+all_stripped : (t : Table) → ((fs : ℕ) (key : Key) → is_unstripped t fs key ≡ false) → IsOrderly t → NoneGone t → AllStripped t
+all_stripped t done rules none fs key stamp block at = elim (rules.homes fs key (ap is_some at)) [
+  | inl zero ↦ inl zero
+  | inr stands ↦
+      let found = some_is (map.get t.filesets fs) stands in
+      let live : is_live t fs ≡ true = ap (λ o. option_map_or (λ (f : Fileset). not f.gone) o false) found.1 ∙ ap not (none fs found.0 found.1) in
+      inr (elim (keeps_data t fs) as (λ b. keeps_data t fs ≡ b → b ≡ true) [
+        | true ↦ λ _. refl
+        | false ↦ λ drops. absurd (false≢true (sym (done fs key) ∙ and_from (drops_data t fs) (is_extent (column t key fs)) (and_from (is_live t fs) (not (keeps_data t fs)) live (ap not drops)) (ap is_extent at)))
+      ] refl)
+]
+
+pub no_work_stripped : (t : Table) → IsTable t → IfNone (strip_work_of t) (IsOrderly t → NoneGone t → AllStripped t)
+no_work_stripped t lawful =
+    elim (strip_work_of t) as (λ o. strip_work_of t ≡ o → IfNone o (IsOrderly t → NoneGone t → AllStripped t)) [
+      | None ↦ λ none. all_stripped t (none_left t lawful none)
       | Some item ↦ λ _. tt
     ] refl
 

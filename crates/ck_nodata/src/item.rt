@@ -1,6 +1,8 @@
 ghost use Rattle.std.specs.Prelude.{◌≡◌, ℕ, IfNone, IfSome, None, false, true};
 ghost use Rattle.ck_model.specs.declared.key.Key.{Key};
 ghost use Rattle.ck_model.specs.Table.{newer};
+ghost use Rattle.ck_model.specs.Placed.{AllStripped, NoneGone};
+ghost use Rattle.ck_model.specs.Rules.{IsOrderly};
 ghost use Rattle.ck_nodata.specs.StripItem.{
   drops_data,
   first_extent,
@@ -81,6 +83,9 @@ pub fn strip_work<M: Meta>(meta: &M) -> Option<StripItem>
         is_unstripped (M.table meta.now) item.id item.key ≡ true) }
     ensures none { IfNone result ((fs : ℕ) (key : Key) →
         is_unstripped (M.table meta.now) fs key ≡ false) }
+    // Where no checkpoint is gone either, data blocks are named only where data is kept.
+    ensures stripped { IfNone result (IsOrderly (M.table meta.now) →
+        NoneGone (M.table meta.now) → AllStripped (M.table meta.now)) }
 {
     first_strip(meta, 0)
 }
