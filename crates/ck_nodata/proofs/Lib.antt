@@ -2,3 +2,5 @@ pub mod MarkLemmas
 pub mod CountLemmas
 pub mod WorkLemmas
 pub mod StripLemmas
+pub mod PlaceLemmas
+pub mod StrippedLaws

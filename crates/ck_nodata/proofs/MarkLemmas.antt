@@ -20,7 +20,7 @@ use Rattle.ck_chain.proofs.ColumnLaws.{column-with_entry, column-with_entry_othe
 use Rattle.ck_chain.proofs.CountLaws.{record_count-with_entry}
 use Rattle.ck_chain.proofs.HolderLaws.{same_holder, says_still}
 use Rattle.ck_chain.proofs.NameLaws.{named_else, named_entry, named_without, named_written, place_of}
-use Rattle.ck_chain.proofs.OrderlyLaws.{orderly_with, positive_id}
+use Rattle.ck_chain.proofs.OrderlyLaws.{orderly_with, positive_id, written_or_before}
 use Rattle.ck_chain.proofs.ReadLaws.{each_above, entry_reads, live_stands}
 use Rattle.ck_remove.specs.Extents.{named_in}
 use Rattle.ck_remove.specs.Unseen.{IsUnseen}
@@ -138,6 +138,11 @@ module _ (t : Table) (f : ℕ) (key : Key) (stamp block : ℕ) (is : IsExtent t 
         primary = λ q. elim (place_of t f key (Some (Mark stamp)) 0 q) [
           | inl there ↦ let zero = there.0 in absurd (omega (arith, zero, above))
           | inr same ↦ same
+        ];
+        keeps = λ fs. refl;
+        dropped = λ fs q s b drops there. elim (written_or_before t f key (Some (Mark stamp)) fs q (Extent s b) there) [
+          | inl made ↦ let mark = made.2 in cc
+          | inr stood ↦ stood
         ];
         filesets = λ fs kept. refl;
         gone = λ fs gone. inl refl;

@@ -1,15 +1,13 @@
 -- The first data block that is left to strip.
 use Rattle.std.proofs.Common.{◌≡◌, ℕ, Bool, true, false, cond, ◌&&◌, ◌||◌, not, List, [], ◌∷◌, ◌++◌, filter, find, inl, inr, Option, Some, None, is_some, IsSome, IfSome, IfNone, if◌then◌else◌, refl, sym, ap, ◌∙◌, arith}
-use Rattle.std.specs.declared.cmp.Ordering.{Ordering}
-use Rattle.std.specs.declared.cmp.Ordering.TheVariants.{Less, Equal, Greater}
-use Rattle.std.specs.Ordering.{eq_by_cmp, is_eq}
+use Rattle.std.specs.Ordering.{eq_by_cmp}
 use Rattle.std.specs.Option.{option_map, option_map_or, option_or}
 use Rattle.std.specs.FinMap as map
 use Rattle.std.proofs.lemmas.Bool.{and_from, false≢true}
 use Rattle.ck_model.specs.declared.key.Key.{Key}
 use Rattle.ck_model.specs.declared.checkpoint.Fileset.{Fileset}
 use Rattle.ck_model.specs.declared.held.Held.{Held}
-use Rattle.ck_model.specs.Key.{key_cmp, key_cmp_exact}
+use Rattle.ck_model.specs.Key.{key_cmp}
 use Rattle.ck_model.specs.Rows.{row_of}
 use Rattle.ck_model.specs.Table.{Table, IsTable, column, keys_in, newer}
 use Rattle.ck_model.specs.TableWorld.{is_among}
@@ -17,6 +15,7 @@ use Rattle.ck_model.specs.Chain.{is_live, keeps_data}
 use Rattle.ck_model.specs.Placed.{AllStripped, NoneGone}
 use Rattle.ck_model.specs.Rules.{IsOrderly}
 use Rattle.ck_model.proofs.CaseLaws.{and_left, and_right, none_some, some_is, true_or_false}
+use Rattle.ck_model.proofs.CellLaws.{tied-is}
 use Rattle.ck_model.proofs.RowLaws.{find-row_of}
 use Rattle.ck_chain.specs.Needless.{in_between}
 use Rattle.ck_chain.proofs.NewerLaws.{newer_split}
@@ -39,11 +38,6 @@ none_found : {X : Type 0} (p : X → Bool) (xs : List X) → ((x : X) → p x �
 none_found p [] fails = refl
 none_found p (x ∷ xs) fails = ap (λ b. cond b (Some x) (find p xs)) (fails x) ∙ none_found p xs fails
 
-is_equal : (o : Ordering) → is_eq o ≡ true → o ≡ Equal
-is_equal Less h = cc
-is_equal Equal h = refl
-is_equal Greater h = cc
-
 -- where none is found, none of the keys passes
 none_passes : (p : Key → Bool) (keys : List Key) (q : Key) → find p keys ≡ None → is_among q keys ≡ true → p q ≡ false
 none_passes p [] q none among = absurd (false≢true among)
@@ -52,7 +46,7 @@ none_passes p (key ∷ keys) q none among =
       | true ↦ λ _ wrong. absurd (none_some key (sym wrong))
       | false ↦ λ fails rest.
           elim (eq_by_cmp key_cmp q key) as (λ b. eq_by_cmp key_cmp q key ≡ b → (b || is_among q keys) ≡ true → p q ≡ false) [
-            | true ↦ λ tied _. ap p (key_cmp_exact q key (is_equal (key_cmp q key) tied)) ∙ fails
+            | true ↦ λ tied _. ap p (tied-is q key tied) ∙ fails
             | false ↦ λ _ further. none_passes p keys q rest further
           ] refl among
     ] refl none
@@ -63,7 +57,7 @@ among-keys_in : (t : Table) (fs : ℕ) (q : Key) → is_among q (keys_in t fs) �
 among-keys_in t fs q =
     ap (is_among q) (keys-row fs (map.entries t.entries)) ∙ among-keys q (row_of t fs) ∙ ap is_some (find-row_of t fs q)
 
-extent_stands : (o : Option Held) → is_extent o ≡ true → IsSome o
+pub extent_stands : (o : Option Held) → is_extent o ≡ true → IsSome o
 extent_stands None h = h
 extent_stands (Some held) h = refl
 
@@ -78,11 +72,11 @@ no_image : {X Y : Type 0} (f : X → Y) (o : Option X) → option_map f o ≡ No
 no_image f None h = refl
 no_image f (Some x) h = absurd (none_some (f x) (sym h))
 
-abbrev item_at : ℕ → Key → StripItem
+abbrev pub item_at : ℕ → Key → StripItem
 item_at fs key = record { id = fs; key = key }
 
 -- where nothing is stripped of a checkpoint that drops data, it has no data block
-none_in : (t : Table) (fs : ℕ) → drops_data t fs ≡ true → strip_in t fs None ≡ None → (q : Key) → is_extent (column t q fs) ≡ false
+pub none_in : (t : Table) (fs : ℕ) → drops_data t fs ≡ true → strip_in t fs None ≡ None → (q : Key) → is_extent (column t q fs) ≡ false
 none_in t fs drops none =
     none_first t fs (no_image (item_at fs) (first_extent t fs None) (sym (ap (λ (b : Bool). if b then option_map (item_at fs) (first_extent t fs None) else None) drops) ∙ none))
 

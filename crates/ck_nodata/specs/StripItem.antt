@@ -1,5 +1,5 @@
 -- The data blocks that checkpoints hold still, though no data is kept there.
-use Rattle.std.specs.Prelude.{ℕ, Bool, true, false, ◌&&◌, not, List, [], ◌∷◌, Option, Some, None, if◌then◌else◌, find}
+use Rattle.std.specs.Prelude.{◌≡◌, ◌<◌, ◌⊎◌, ℕ, Bool, true, false, ◌&&◌, not, List, [], ◌∷◌, Option, Some, None, if◌then◌else◌, find}
 use Rattle.std.specs.Option.{option_map, option_or}
 use Rattle.std.specs.FinMap as map
 use Rattle.ck_model.specs.declared.key.Key.{Key}
@@ -7,6 +7,7 @@ use Rattle.ck_model.specs.declared.held.Held.{Held}
 use Rattle.ck_model.specs.declared.held.Held.TheVariants.{Absent, Plain, Extent, Mark}
 use Rattle.ck_model.specs.Table.{Table, column, keys_after, newer}
 use Rattle.ck_model.specs.Chain.{is_live, keeps_data}
+use Rattle.ck_chain.specs.Order.{is_behind}
 use Rattle.ck_nodata.specs.declared.item.StripItem.{StripItem}
 
 abbrev pub is_extent : Option Held → Bool
@@ -46,3 +47,7 @@ first_strip t (fs ∷ filesets) = option_or (strip_in t fs None) (first_strip t 
 -- the first one of all, that of the oldest checkpoint that has one
 abbrev pub strip_work_of : Table → Option StripItem
 strip_work_of t = first_strip t (newer t 0)
+
+-- nothing is left to strip up to this one, by the checkpoints' age and then by the keys
+abbrev pub IsStrippedTo : Table → StripItem → Type 0
+IsStrippedTo t last = (fs : ℕ) (key : Key) → is_unstripped t fs key ≡ true → (last.id < fs) ⊎ ((fs ≡ last.id) × (is_behind last.key key ≡ true))

@@ -11,6 +11,7 @@ ghost use Rattle.ck_nodata.specs.StripItem.{
   is_unstripped,
   strip_in,
   strip_work_of,
+  IsStrippedTo,
 };
 
 use ck_chain::{is_live, keeps};
@@ -88,4 +89,16 @@ pub fn strip_work<M: Meta>(meta: &M) -> Option<StripItem>
         NoneGone (M.table meta.now) → AllStripped (M.table meta.now)) }
 {
     first_strip(meta, 0)
+}
+
+/// The same, where nothing is left to strip up to this one: what lies before it isn't looked at again.
+pub fn strip_work_behind<M: Meta>(meta: &M, last: StripItem) -> Option<StripItem>
+    requires { IsStrippedTo (M.table meta.now) last }
+    ensures { result ≡ strip_work_of (M.table meta.now) }
+{
+    let item = strip_in(meta, last.id, Some(last.key));
+    if item.is_some() {
+        return item;
+    }
+    first_strip(meta, last.id)
 }

@@ -4,5 +4,5 @@
 mod item;
 mod marks;
 
-pub use item::{StripItem, strip_work};
+pub use item::{StripItem, strip_in, strip_work, strip_work_behind};
 pub use marks::{strip, strip_one};
