@@ -1,5 +1,5 @@
 -- What the map of a live data checkpoint has at a key, and where that comes from.
-use Rattle.std.proofs.Common.{◌≡◌, ℕ, ◌<◌, ◌≤◌, true, false, cond, ◌&&◌, not, Option, Some, None, is_some, IsSome, IfSome, IfOk, List, [], ◌∷◌, nat_eq, refl, ap, sym, subst, ◌∙◌, arith}
+use Rattle.std.proofs.Common.{◌≡◌, ℕ, ◌+◌, ◌<◌, ◌≤◌, true, false, cond, ◌&&◌, not, Option, Some, None, is_some, IsSome, IfSome, IfOk, List, [], ◌∷◌, nat_eq, refl, ap, sym, subst, ◌∙◌, arith}
 use Rattle.std.specs.Option.{option_or, option_map, option_map_or, option_and_then}
 use Rattle.std.specs.FinMap as map
 use Rattle.std.proofs.lemmas.Bool.Decides.{nat_tests}
@@ -46,12 +46,19 @@ value_held : (t : Table) (fs : ℕ) (key : Key) (h : Held) → value_of t fs key
 value_held t fs key h is = first_is (column t key) (fs ∷ newer t fs) h (present_is (first_entry (column t key) (fs ∷ newer t fs)) h is)
 
 -- the data block that a value names is one of the volume's
-pub block_below : (t : Table) (fs : ℕ) (key : Key) (block : ℕ) → IsOrderly t → option_and_then block_in (value_of t fs key) ≡ Some block → block < t.blocks
+block_below : (t : Table) (fs : ℕ) (key : Key) (block : ℕ) → IsOrderly t → option_and_then block_in (value_of t fs key) ≡ Some block → block < t.blocks
 block_below t fs key block orderly names = on (value_of t fs key) refl names
   where
     on : (o : Option Held) → value_of t fs key ≡ o → option_and_then block_in o ≡ Some block → block < t.blocks
     on None has none = absurd (none_some block none)
     on (Some held) has names = let at = value_held t fs key held has in subst (λ o. IfSome o (λ b. b < t.blocks)) names (orderly.blocks at.0 key held at.1)
+
+-- it is one of the device's
+pub block_within : (t : Table) (fs : ℕ) (key : Key) (held : Option Held) (named : Option ℕ) (base size : ℕ) → IsOrderly t → held ≡ value_of t fs key → named ≡ option_and_then block_in held → base + t.blocks ≤ size → IfSome named (λ block. base + block < size)
+block_within t fs key held None base size orderly got is area = tt
+block_within t fs key held (Some block) base size orderly got is area =
+    let low = block_below t fs key block orderly (ap (option_and_then block_in) (sym got) ∙ sym is) in
+    omega (arith, low, area)
 
 -- a file's size is within its limit
 pub size_below : (t : Table) (fs node : ℕ) → IsTable t → IfOk (file_size (content_on no_store (value_of t fs (Node node)))) (λ size. size ≤ file_limit)

@@ -1,3 +1,4 @@
+use Rattle.std.proofs.Common.{sym, ◌∙◌}
 use Rattle.ck_read.specs.Block.{map_on, store_on}
 use Rattle.ck_read.proofs.ProgressLaws.{fits_more, turns_more}
 use Rattle.ck_read.proofs.turns.turn.Goals as goal
@@ -14,4 +15,4 @@ returns-in-Ok-2-clause-fits g c = λ told.
 
 pub returns-in-Ok-2-clause-more : goal.returns-in-Ok-2-clause-more
 returns-in-Ok-2-clause-more g c = λ more.
-    turns_more c.args.progress.now c.read_block.new.self c.in-Ok-2.ensures.others c.in-Ok-2.ensures.count ?
+    turns_more c.args.progress.now c.read_block.new.self c.in-Ok-2.ensures.others c.in-Ok-2.ensures.count (sym c.is_through.ensures ∙ c.if-is_through.false)
