@@ -21,12 +21,12 @@ under_way_more p ys count way = record {
   limit = way.limit;
   edge = elim (cases_lt (next_place p) p.to) [
     | inl left ↦ elim (cases_lt (left_len p) (4096 - next_place p % 4096)) [
-        | inl last ↦ inr (inr (omega (arith, count, left, last)))
-        | inr whole ↦ inr (inl (omega (arith, count, left, whole)))
-      ]
+      | inl last ↦ inr (inr (omega (arith, count, left, last)))
+      | inr whole ↦ inr (inl (omega (arith, count, left, whole)))
+    ]
     | inr none ↦
-      let same : next_place (with_bytes p ys) ≡ next_place p = omega (arith, count, none) in
-      subst (λ place. (place ≡ p.from) ⊎ ((place % 4096 ≡ 0) ⊎ (place ≡ p.to))) (sym same) way.edge
+        let same : next_place (with_bytes p ys) ≡ next_place p = omega (arith, count, none) in
+        subst (λ place. (place ≡ p.from) ⊎ ((place % 4096 ≡ 0) ⊎ (place ≡ p.to))) (sym same) way.edge
   ];
 }
 

@@ -140,6 +140,13 @@ impl ReadProgress {
         let count = (BLOCK - from).min(self.to - place);
         let index = (place / BLOCK) as u32;
         let named = block_of(value(meta, self.ckpt, &Key::Block(self.node, index)));
-        append_part(disk, base, named, from as usize, count as usize, &mut self.bytes)
+        append_part(
+            disk,
+            base,
+            named,
+            from as usize,
+            count as usize,
+            &mut self.bytes,
+        )
     }
 }
