@@ -1,3 +1,4 @@
 pub mod MapLemmas
 pub mod PartLemmas
 pub mod ProgressLaws
+pub mod ReplyLaws

@@ -1,10 +1,11 @@
 -- A read of a checkpoint's file under way: the bytes that it has, those that its next turn takes, and how many turns are left.
-use Rattle.std.specs.Prelude.{◌≡◌, ◌≤◌, ◌⊎◌, ℕ, ◌+◌, ◌-◌, ◌%◌, Bool, List, length, min, max, map as list_map, nat_le}
+use Rattle.std.specs.Prelude.{◌≡◌, ◌≤◌, ◌⊎◌, ℕ, ◌+◌, ◌-◌, ◌%◌, Bool, List, length, min, max, map as list_map, nat_le, Ok}
 use Rattle.std.specs.List.{range_with_len}
 use Rattle.ck_model.specs.Cells.{Cells, size_at}
 use Rattle.ck_model.specs.Changes.{touched}
 use Rattle.ck_model.specs.Contents.{file_byte, file_range}
 use Rattle.ck_model.specs.Limits.{file_limit}
+use Rattle.ck_model.specs.Walk.{file_at}
 use Rattle.ck_read.specs.declared.progress.ReadProgress.{ReadProgress}
 
 -- where the next byte stands in the file
@@ -50,3 +51,10 @@ pub record ReadFits (cells : Cells) (progress : ReadProgress) : Type 0 where
   pub under_way : IsUnderWay progress
   pub end : progress.to ≤ size_at cells progress.node
   pub bytes : progress.bytes ≡ file_range cells progress.node progress.from (length progress.bytes)
+
+-- it reads at most so many bytes from a place on of the file that this path leads to in the map, as far as they stand below its size
+pub record IsReadOf (cells : Cells) (path : List (List ℕ)) (at len : ℕ) (progress : ReadProgress) : Type 0 where
+  pub file : file_at cells path ≡ Ok progress.node
+  pub from : progress.from ≡ at
+  pub to : progress.to ≡ min (at + len) (size_at cells progress.node)
+  pub fits : ReadFits cells progress
