@@ -1,9 +1,8 @@
 -- What the map of a live data checkpoint has at a key, and where that comes from.
-use Rattle.std.proofs.Common.{◌≡◌, ℕ, ◌+◌, ◌<◌, ◌≤◌, true, false, cond, ◌&&◌, not, Option, Some, None, is_some, IsSome, IfSome, IfOk, List, [], ◌∷◌, nat_eq, refl, ap, sym, subst, ◌∙◌, arith}
+use Rattle.std.proofs.Common.{◌≡◌, ℕ, ◌+◌, ◌<◌, ◌≤◌, true, false, cond, ◌&&◌, not, Option, Some, None, IsSome, IfSome, IfOk, List, [], ◌∷◌, nat_eq, refl, ap, sym, subst, ◌∙◌, arith}
 use Rattle.std.specs.Option.{option_or, option_map, option_map_or, option_and_then}
 use Rattle.std.specs.FinMap as map
 use Rattle.std.proofs.lemmas.Bool.Decides.{nat_tests}
-use mathlib.Core.Bool.{false≢true}
 use Rattle.ck_model.specs.declared.key.Key.{Key}
 use Rattle.ck_model.specs.declared.key.Key.TheVariants.{Node}
 use Rattle.ck_model.specs.declared.cell.Cell.{Cell}
@@ -11,7 +10,7 @@ use Rattle.ck_model.specs.declared.checkpoint.Fileset.{Fileset}
 use Rattle.ck_model.specs.declared.held.Held.{Held}
 use Rattle.ck_model.specs.declared.held.Held.TheVariants.{Absent, Plain, Extent, Mark}
 use Rattle.ck_model.specs.declared.held.Small.TheVariants.{To, File, Dir}
-use Rattle.ck_model.specs.Cells.{Cells, content_at, bytes_in}
+use Rattle.ck_model.specs.Cells.{content_at, bytes_in}
 use Rattle.ck_model.specs.Chain.{first_entry, present, value_of, value_at, is_live_data}
 use Rattle.ck_model.specs.Limits.{file_limit}
 use Rattle.ck_model.specs.Rules.{block_in, IsOrderly}

@@ -1,5 +1,5 @@
 -- The bytes that are read of one data block, and the part of a file that they are.
-use Rattle.std.proofs.Common.{◌≡◌, ℕ, zero, suc, ◌+◌, ◌-◌, ◌/◌, ◌%◌, ◌<◌, ◌≤◌, ◌++◌, true, replicate, slice_index, add-zero, Option, List, ◌∷◌, length, get_or, take, drop, drop-cons, map as list_map, ◌⊎◌, inl, inr, refl, sym, ap, ◌∙◌, arith}
+use Rattle.std.proofs.Common.{◌≡◌, ℕ, zero, suc, ◌+◌, ◌/◌, ◌%◌, ◌<◌, ◌≤◌, true, replicate, slice_index, add-zero, Option, List, ◌∷◌, length, get_or, take, drop, drop-cons, map as list_map, ◌⊎◌, inl, inr, refl, sym, ap, ◌∙◌, arith}
 use Rattle.std.specs.List.{range_with_len}
 use Rattle.std.specs.Option.{option_and_then}
 use Rattle.std.proofs.lemmas.List.{get_or_past, get_or-replicate, length-replicate}
