@@ -1,5 +1,5 @@
 use ck_model::{NoMemory, WalkFault};
-use std::alloc::{AllocError, AllocFailed};
+use std::alloc::AllocError;
 
 /// Why a read of a checkpoint's file doesn't begin.
 #[derive(Clone, Copy, Debug, PartialEq, Eq)]
@@ -25,17 +25,6 @@ impl From<WalkFault> for StartFault {
             WalkFault::NotFound => StartFault::NotFound,
             WalkFault::NotDir => StartFault::NotDir,
         }
-    }
-}
-
-impl<T: Drop> From<AllocFailed<T>> for StartFault {
-    ghost use Rattle.std.specs.Prelude.{◌≡◌};
-    ghost use Rattle.ck_read.specs.declared.fault.StartFault.TheVariants as fault;
-
-    ghost from_gives = { λ _ e. e ≡ fault.NoMemory };
-
-    fn from(_error: AllocFailed<T>) -> StartFault {
-        StartFault::NoMemory
     }
 }
 

@@ -64,7 +64,6 @@ pub fn start<M: Meta>(
     at: u64,
     len: u32,
 ) -> Result<ReadProgress, StartFault>
-    // All refusals come before the want of memory.
     ensures refused { IfErr result (λ why. why ≢ NoMemory → (store : Store) →
         file_read (M.table meta.now) (map_on store (M.table meta.now) ckpt) ckpt walk ≡ Err why) }
     ensures node { IfOk result (λ progress. (store : Store) →
