@@ -1,14 +1,14 @@
 -- What a legal history keeps of a world: the order of ids, marks in nodata checkpoints, and the frozen maps.
-use Rattle.std.proofs.Common.{◌≡◌, ◌≤◌, ◌<◌, ℕ, ◌+◌, Bool, true, false, Option, None, Some, option_map, List, [], ◌∷◌, ◌++◌, find, nat_eq, refl, sym, ap, ◌∙◌, subst, arith, le_refl, eqb-true, eq-eqb, ne_eqb, if◌then◌else◌}
+use Rattle.std.proofs.Common.{◌≡◌, ◌≤◌, ◌<◌, ℕ, ◌+◌, Bool, true, false, Option, None, Some, option_map, List, [], ◌∷◌, ◌++◌, find, nat_eq, refl, sym, ap, ◌∙◌, subst, arith, le_refl, eq-eqb, ne_eqb, if◌then◌else◌}
 use Rattle.std.specs.List.{AllByRecursion}
 use Rattle.std.specs.Option.{option_or, option_map_or}
-use Rattle.std.proofs.lemmas.Option.{none-some}
 use Rattle.ck_model.specs.declared.entry.Entry.{Entry}
 use Rattle.ck_model.specs.Cells.{Cells}
-use Rattle.ck_model.specs.World.{World, Checkpoint, has_id, shown_by}
+use Rattle.ck_model.specs.World.{World, Checkpoint, empty_world, has_id, shown_by}
+use Rattle.ck_model.specs.declared.checkpoint.Limits.{Limits}
 use Rattle.ck_model.specs.Streams.{Texts}
-use Rattle.ck_model.specs.History.{Past, CallsBy, begun, created_id, past_after, past_of, IsLegalFrom, IsLegal, state}
-use Rattle.ck_laws.specs.Laws.{IdsRise, IsOrdered, frozen_from, frozen, FrozenMapsStay, OrderStays}
+use Rattle.ck_model.specs.History.{Past, CallsBy, begun, created_id, past_after, past_of, IsLegalFrom}
+use Rattle.ck_laws.specs.Laws.{IdsRise, IsOrdered, frozen_from, FrozenMapsStay, OrderStays}
 use Rattle.ck_laws.proofs.WorldLemmas.{IsLater, Remain-itself, All-remain, All-append, IdsRise-remain, IdsRise-append, shown_again}
 use Rattle.ck_laws.proofs.StepLemmas.{Adds}
 use Rattle.ck_laws.proofs.HistoryLemmas.{past_after-adds}
