@@ -1,1 +1,6 @@
-
+mod EntriesLemmas
+mod NewestLemmas
+mod TidiedLemmas
+mod FreedLemmas
+mod PromotedLemmas
+mod UnlinkedLemmas

@@ -31,6 +31,7 @@ fn move_entries<M: Meta>(meta: &mut M, id: u32, fs: u32, freed: &mut Vec<u32>)
     ensures gains { Gains freed.old.items freed.new.items (M.table meta.old) (M.table meta.new) }
     ensures room { vec_len freed.new + entries_from (M.table meta.new) id
         ≤ vec_capacity freed.new }
+    ensures capacity { vec_capacity freed.new ≡ vec_capacity freed.old }
 {
     while let Some(key) = next_entry(meta, fs, None) {
         move_entry(meta, id, fs, &key, freed);
@@ -54,6 +55,7 @@ fn remove_newest<M: Meta>(meta: &mut M, id: u32, fs: u32, freed: &mut Vec<u32>)
     ensures gains { Gains freed.old.items freed.new.items (M.table meta.old) (M.table meta.new) }
     ensures room { vec_len freed.new + entries_from (M.table meta.new) id
         ≤ vec_capacity freed.new }
+    ensures capacity { vec_capacity freed.new ≡ vec_capacity freed.old }
 {
     move_entries(meta, id, fs, freed);
     meta.del_fileset(fs);
@@ -73,6 +75,7 @@ fn remove_newer<M: Meta>(meta: &mut M, id: u32, freed: &mut Vec<u32>)
     ensures gains { Gains freed.old.items freed.new.items (M.table meta.old) (M.table meta.new) }
     ensures room { vec_len freed.new + entries_from (M.table meta.new) id
         ≤ vec_capacity freed.new }
+    ensures capacity { vec_capacity freed.new ≡ vec_capacity freed.old }
 {
     while let Some(fs) = newest_above(meta, id) {
         remove_newest(meta, id, fs, freed);
