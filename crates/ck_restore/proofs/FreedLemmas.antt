@@ -45,6 +45,10 @@ distinct_both (x ∷ xs) ys one two apart =
       distinct_both xs ys one.1 two (λ block first second. apart block (or_right (nat_eq block x) (is_among xs block) first) second),
     )
 
+distinct_none : IsDistinct nat_eq []
+unfolding IsDistinct
+distinct_none = tt
+
 pub released_none : (t u : Table) → ((block : ℕ) → IsNamed u block ↔ IsNamed t block) → AreReleased t u []
 released_none t u same = record {
   parted = λ block named. inl ((same block).1 named);
@@ -52,10 +56,6 @@ released_none t u same = record {
   kept = λ block named. (same block).0 named;
   once = distinct_none;
 }
-  where
-    distinct_none : IsDistinct nat_eq []
-    unfolding IsDistinct
-    distinct_none = tt
 
 pub released_then : (a b c : Table) (xs ys : List ℕ) → AreReleased a b xs → AreReleased b c ys → AreReleased a c (xs ++ ys)
 released_then a b c xs ys one two = record {
@@ -73,6 +73,10 @@ released_then a b c xs ys one two = record {
   kept = λ block named. one.kept block (two.kept block named);
   once = distinct_both xs ys one.once two.once (λ block first second. (one.gone block first).1 (two.gone block second).0);
 }
+
+-- a further change takes away no name and adds none
+pub released_still : (a b c : Table) (xs : List ℕ) → AreReleased a b xs → ((block : ℕ) → IsNamed c block ↔ IsNamed b block) → AreReleased a c xs
+released_still a b c xs one same = subst (AreReleased a c) (append-nil xs) (released_then a b c xs [] one (released_none b c same))
 
 pub gains_none : (t u : Table) (xs : List ℕ) → ((block : ℕ) → IsNamed u block ↔ IsNamed t block) → Gains xs xs t u
 gains_none t u xs same = record { gained = []; behind = sym (append-nil xs); released = released_none t u same }
@@ -105,7 +109,7 @@ listed_is (Some other) block h = go (nat_eq block other) refl h
   where
     go : (b : Bool) → nat_eq block other ≡ b → (b || false) ≡ true → Some other ≡ Some block
     go true is _ = ap (λ (n : ℕ). Some n) (sym (eqb-true block other is))
-    go false is no = absurd (false≢true no)
+    go false is wrong = absurd (false≢true wrong)
 
 pub is_listed : (o : Option ℕ) (block : ℕ) → o ≡ Some block → is_among (listed o) block ≡ true
 is_listed o block is = ap (λ o. is_among (listed o) block) is ∙ or_left (nat_eq block block) false (eq-eqb block block refl)

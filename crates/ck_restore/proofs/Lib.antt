@@ -2,5 +2,5 @@ mod EntriesLemmas
 mod NewestLemmas
 mod TidiedLemmas
 mod FreedLemmas
-mod PromotedLemmas
 mod UnlinkedLemmas
+mod PromotedLemmas

@@ -123,7 +123,7 @@ pub upto_all : (id : ℕ) (key : Key) (at : ℕ) (old new : Table) → IsTable n
 upto_all id key at old new lawful upto last others fs q live lower = elim (same_or_other q key) [
   | inl same ↦ subst (λ k. NeededAt new k fs) (sym same) (
       elim (cases_lt at fs) [
-        | inl more ↦ absurd (false≢true (last.least fs more lower (live_stands new fs live)))
+        | inl more ↦ absurd (last.least fs more lower (live_stands new fs live))
         | inr le ↦
             let least = positive_id new fs lawful (live_stands new fs live) in
             upto.done fs live (omega arith) le lower
