@@ -199,3 +199,7 @@ few_entries t fs sized =
     let own = length-map (filter (λ (e : Placed). nat_eq e.0.0 fs) (map.entries t.entries)) (λ (e : Placed). e.0.1) in
     let small = few t sized (λ (e : Placed). nat_eq e.0.0 fs) in
     omega (arith, own, small)
+
+-- where one stands there is at least one
+pub some_from : (t : Table) (id fs : ℕ) (key : Key) → id ≤ fs → IsSome (column t key fs) → 1 ≤ entries_from t id
+some_from t id fs key within held = let fewer = entries_from-without t id fs key within held in omega (arith, fewer)

@@ -4,7 +4,7 @@ use Rattle.std.specs.List.{list_any, AllByRecursion, IsDistinct}
 use Rattle.std.proofs.lemmas.Bool.{false≢true, eqb-true, eq-eqb, or_left, or_right, false_from_ne_true}
 use Rattle.std.proofs.lemmas.List.{append-nil, append_assoc}
 use Rattle.std.proofs.lemmas.List.Folds.{list_any-append}
-use Rattle.ck_model.specs.Table.{Table}
+use Rattle.ck_model.specs.Table.{Table, with_fileset}
 use Rattle.ck_chain.specs.Named.{IsNamed}
 use Rattle.ck_restore.specs.Freed.{AreFreed, AreReleased, Gains, GainsFreed, is_among, listed}
 
@@ -86,6 +86,14 @@ gains_then a b c xs ys zs one two = record {
   gained = one.gained ++ two.gained;
   behind = two.behind ∙ ap (λ l. l ++ two.gained) one.behind ∙ append_assoc xs one.gained two.gained;
   released = released_then a b c one.gained two.gained one.released two.released;
+}
+
+-- a record that goes names no block
+pub gains_unlinked : (t m : Table) (id : ℕ) (xs ys : List ℕ) → Gains xs ys t m → Gains xs ys t (with_fileset m id None)
+gains_unlinked t m id xs ys gains = record {
+  gained = gains.gained;
+  behind = gains.behind;
+  released = released_still t m (with_fileset m id None) gains.gained gains.released (λ block. (λ h. h, λ h. h));
 }
 
 -- what is released is exactly what nothing names any more

@@ -4,3 +4,4 @@ mod TidiedLemmas
 mod FreedLemmas
 mod UnlinkedLemmas
 mod PromotedLemmas
+mod RestoredLemmas
