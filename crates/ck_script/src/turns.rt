@@ -1,7 +1,5 @@
-ghost use Rattle.std.specs.Prelude.{◌≡◌, ◌++◌, List, ℕ, OnOk};
+ghost use Rattle.std.specs.Prelude.{◌≡◌, List, ℕ};
 
-use ck_model::NoMemory;
-use std::alloc::Global;
 use std::marker::Model;
 
 /// Turns, in order: an actor's by its number, and the background's as 0.
