@@ -43,9 +43,9 @@ abbrev two_actors : Parsed
 two_actors =
     script_of
     ((1, Make (file (codes "a"))) ∷ (1, Write (file (codes "a")) 0 (codes "one")) ∷ (1, Make (file (codes "b"))) ∷ (1, Write (file (codes "b")) 0 (codes "bee"))
-      ∷ (1, Create (codes "c1") false false) ∷ (1, Create (codes "c2") false false) ∷ (1, Write (file (codes "a")) 0 (codes "two"))
-      ∷ (1, Write (file (codes "b")) 0 (codes "cow")) ∷ (1, Create (codes "c3") false false) ∷ (1, Remove (codes "c2"))
-      ∷ (2, Mount 120 (codes "c1")) ∷ (2, Cread 120 (file (codes "a")) 0 3) ∷ (2, Cread 120 (file (codes "b")) 0 3) ∷ (2, Counted) ∷ [])
+    ∷ (1, Create (codes "c1") false false) ∷ (1, Create (codes "c2") false false) ∷ (1, Write (file (codes "a")) 0 (codes "two"))
+    ∷ (1, Write (file (codes "b")) 0 (codes "cow")) ∷ (1, Create (codes "c3") false false) ∷ (1, Remove (codes "c2"))
+    ∷ (2, Mount 120 (codes "c1")) ∷ (2, Cread 120 (file (codes "a")) 0 3) ∷ (2, Cread 120 (file (codes "b")) 0 3) ∷ (2, Counted) ∷ [])
     (1 ∷ 1 ∷ 1 ∷ 1 ∷ 1 ∷ 1 ∷ 1 ∷ 1 ∷ 1 ∷ 1 ∷ 0 ∷ 2 ∷ 2 ∷ 2 ∷ 2 ∷ [])
 
 abbrev by_two_actors : List Entry
@@ -92,7 +92,7 @@ abbrev long_read : Parsed
 long_read =
     script_of
     ((1, Make (file (codes "a"))) ∷ (1, Fill (file (codes "a")) 0 12289 97) ∷ (1, Create (codes "c1") false false) ∷ (1, Sync) ∷ (1, Sync)
-      ∷ (2, Mount 120 (codes "c1")) ∷ (2, Cread 120 (file (codes "a")) 4095 4098) ∷ [])
+    ∷ (2, Mount 120 (codes "c1")) ∷ (2, Cread 120 (file (codes "a")) 4095 4098) ∷ [])
     (1 ∷ 1 ∷ 1 ∷ 2 ∷ 2 ∷ 1 ∷ 2 ∷ 1 ∷ 2 ∷ 2 ∷ [])
 
 abbrev by_long_read : List Entry

@@ -55,8 +55,8 @@ answered_by lines counts at (actor ∷ turns) =
     let count = counts actor seq in
     option_map_or
     (λ call.
-      (if nat_eq (standing.had + 1) (answering_turn call count) then (actor, seq) ∷ [] else [])
-      ++ answered_by lines counts (with_turn actor count at) turns)
+    (if nat_eq (standing.had + 1) (answering_turn call count) then (actor, seq) ∷ [] else [])
+    ++ answered_by lines counts (with_turn actor count at) turns)
     (call_at (calls_in lines) actor seq)
     (answered_by lines counts at turns)
 
