@@ -1,3 +1,4 @@
 pub mod CountLemmas
+pub mod TurnLemmas
+pub mod PlaceLemmas
 pub mod WorkedScripts
-pub mod FitLemmas

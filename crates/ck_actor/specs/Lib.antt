@@ -1,3 +1,3 @@
 pub mod Counts
 pub mod Turns
-pub mod Fits
+pub mod Place

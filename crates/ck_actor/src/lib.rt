@@ -1,6 +1,6 @@
 //! Actors: whose call each turn of a script works on.
 #![tactic(auto)]
 
-mod laws;
+mod place;
 
-pub use laws::fits_last;
+pub use place::Place;

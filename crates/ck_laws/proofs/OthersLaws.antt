@@ -25,6 +25,7 @@ use Rattle.ck_model.specs.CheckpointCalls.{frozen_world, new_id, checkpoint_name
 use Rattle.ck_model.specs.Step.{Outcome, told, outcome_of, answered, done, with_room, changing, created, converted, step}
 use Rattle.ck_model.specs.History.{Past, CallsBy, begun, created_id, is_fault, world_after, past_after, past_of, state, numbers_of}
 use Rattle.ck_laws.specs.Laws.{frozen, frozen_from, KeptMapsAreFrozen, FrozenMapsLast, MountsLast}
+use Rattle.ck_laws.specs.Fits.{FitsLast}
 use Rattle.ck_laws.specs.Ordinary.{OrOrdinary}
 use Rattle.ck_model.proofs.CellLaws.{equal}
 use Rattle.ck_model.proofs.HistoryLaws.{past_of-append}
@@ -233,3 +234,14 @@ kept_maps_are_frozen_lem texts calls w history world legal id c found keeping =
     let maps = frozen texts calls w history in
     let shown = among (λ x. option_map (shown_by x.kind) (maps x.id) ≡ Some x.cells) (has_id id) (state texts calls w history).checkpoints c (frozen_maps_stay_lem texts calls w history world legal) found in
     ap maps (sym (own_id id (state texts calls w history).checkpoints c found)) ∙ with_data c.kind (maps c.id) c.cells keeping shown
+
+-- ---- a read on its way
+
+pub fits_last_lem : FitsLast
+fits_last_lem texts calls w history more actor (Cread letter path at len) reading none fits = record {
+  mounted = mounts_last_lem texts calls w history more actor letter none ∙ fits.mounted;
+  cells = fits.cells;
+  cells_are = frozen_maps_last_lem texts calls w history more reading.ckpt fits.cells fits.cells_are;
+  read = fits.read;
+}
+fits_last_lem texts calls w history more actor _ reading none fits = absurd fits

@@ -1,3 +1,4 @@
+ghost use Rattle.ck_laws.specs.Fits.{FitsLast};
 ghost use Rattle.ck_laws.specs.Laws.{CallsKeepTrees, CallsKeepWorlds, ChangesApply, FrozenChangesApply, FrozenMapsAgree, FrozenMapsLast, FrozenMapsStay, KeptMapsAreFrozen, MountsLast, OrderStays, TablesStand, TreesBegin, TreesStay, WorldsBegin, WorldsStay};
 
 /// What a checkpoint froze stays: after every legal history of a well-formed world, each checkpoint
@@ -45,9 +46,11 @@ pub fn trees_stay()
 
 /// As a history goes on, what was frozen under an id stays so, and an actor's letter stands for the
 /// same id until an entry of that actor comes. A checkpoint that stands with its data has the map that
-/// was frozen under its id.
+/// was frozen under its id. So a read of a frozen file that is on its way goes on to fit its call, whatever
+/// other actors do.
 pub fn frozen_maps_last()
     ensures maps { FrozenMapsLast }
     ensures mounts { MountsLast }
     ensures kept { KeptMapsAreFrozen }
+    ensures reads { FitsLast }
 {}

@@ -1,0 +1,288 @@
+-- A script's turns, one after another: what they answer, and where the actors stand then.
+use Rattle.std.proofs.Common.{◌≡◌, ◌≤◌, ◌<◌, ℕ, ◌+◌, Bool, true, false, cond, Option, None, Some, List, [], ◌∷◌, ◌++◌, filter, map as list_map, nat_eq, nat_le, nat_lt, if◌then◌else◌, refl, sym, ap, subst, ◌∙◌, arith, append_assoc}
+use Rattle.std.specs.List.{AllByRecursion}
+use Rattle.std.specs.Option.{option_map_or}
+use Rattle.std.proofs.lemmas.Bool.Decides.{nat_tests}
+use Rattle.std.proofs.lemmas.List.{append-nil}
+use Rattle.ck_model.specs.declared.call.Call.{Call}
+use Rattle.ck_model.specs.History.{CallsBy, call_at}
+use Rattle.ck_script.specs.declared.line.Line.{Line}
+use Rattle.ck_script.specs.Numbered.{calls_in}
+use Rattle.ck_actor.specs.Counts.{TurnCounts}
+use Rattle.ck_actor.specs.Turns.{Standing, at_first, turned, with_turn, answering_turn, is_left, answered_by}
+
+-- where all actors stand
+abbrev pub Standings : Type 0
+Standings = ℕ → Standing
+
+-- the number of the first call of an actor that isn't through
+abbrev pub seq_at : Standings → ℕ → ℕ
+seq_at at actor = (at actor).through + 1
+
+abbrev pub place_of : Line → ℕ × ℕ
+place_of line = (line.actor, line.seq)
+
+module _ (lines : List Line) where
+  abbrev pub next_call : Standings → ℕ → Option Call
+  next_call at actor = call_at (calls_in lines) actor (seq_at at actor)
+
+  -- where they stand behind a turn
+  abbrev pub behind : TurnCounts → Standings → ℕ → Standings
+  behind counts at actor = option_map_or (λ call. with_turn actor (counts actor (seq_at at actor)) at) (next_call at actor) at
+
+  -- what it answers
+  abbrev pub answered_now : TurnCounts → Standings → ℕ → List (ℕ × ℕ)
+  answered_now counts at actor =
+      option_map_or
+      (λ call. if nat_eq ((at actor).had + 1) (answering_turn call (counts actor (seq_at at actor))) then (actor, seq_at at actor) ∷ [] else [])
+      (next_call at actor) []
+
+  -- the same of turns
+  abbrev pub standing_after : TurnCounts → Standings → List ℕ → Standings
+  standing_after counts at [] = at
+  standing_after counts at (actor ∷ turns) = standing_after counts (behind counts at actor) turns
+
+  abbrev pub answered_in : TurnCounts → Standings → List ℕ → List (ℕ × ℕ)
+  answered_in counts at [] = []
+  answered_in counts at (actor ∷ turns) = answered_now counts at actor ++ answered_in counts (behind counts at actor) turns
+
+  -- the calls that are left
+  abbrev pub left_behind : TurnCounts → Standings → List (ℕ × ℕ)
+  left_behind counts at = list_map place_of (filter (is_left counts at) lines)
+
+  -- what turns answer, and then what is left
+  answered_by-parts : (counts : TurnCounts) (at : Standings) (turns : List ℕ) →
+      answered_by lines counts at turns ≡ answered_in counts at turns ++ left_behind counts (standing_after counts at turns)
+  answered_by-parts counts at [] = refl
+  answered_by-parts counts at (actor ∷ turns) =
+      elim (next_call at actor) as (λ o.
+      option_map_or
+      (λ call. (if nat_eq ((at actor).had + 1) (answering_turn call (counts actor (seq_at at actor))) then (actor, seq_at at actor) ∷ [] else []) ++ answered_by lines counts (with_turn actor (counts actor (seq_at at actor)) at) turns)
+      o (answered_by lines counts at turns)
+      ≡ (option_map_or (λ call. if nat_eq ((at actor).had + 1) (answering_turn call (counts actor (seq_at at actor))) then (actor, seq_at at actor) ∷ [] else []) o []
+      ++ answered_in counts (option_map_or (λ call. with_turn actor (counts actor (seq_at at actor)) at) o at) turns)
+      ++ left_behind counts (standing_after counts (option_map_or (λ call. with_turn actor (counts actor (seq_at at actor)) at) o at) turns)) [
+        | None ↦ answered_by-parts counts at turns
+        | Some call ↦
+            let next = with_turn actor (counts actor (seq_at at actor)) at in
+            let now : List (ℕ × ℕ) = if nat_eq ((at actor).had + 1) (answering_turn call (counts actor (seq_at at actor))) then (actor, seq_at at actor) ∷ [] else [] in
+            ap (λ rest. now ++ rest) (answered_by-parts counts next turns)
+            ∙ sym (append_assoc now (answered_in counts next turns) (left_behind counts (standing_after counts next turns)))
+      ]
+
+  -- one more turn behind those
+  standing_after-more : (counts : TurnCounts) (at : Standings) (turns : List ℕ) (actor : ℕ) →
+      standing_after counts at (turns ++ actor ∷ []) ≡ behind counts (standing_after counts at turns) actor
+  standing_after-more counts at [] actor = refl
+  standing_after-more counts at (first ∷ turns) actor = standing_after-more counts (behind counts at first) turns actor
+
+  answered_in-more : (counts : TurnCounts) (at : Standings) (turns : List ℕ) (actor : ℕ) →
+      answered_in counts at (turns ++ actor ∷ []) ≡ answered_in counts at turns ++ answered_now counts (standing_after counts at turns) actor
+  answered_in-more counts at [] actor = append-nil (answered_now counts at actor)
+  answered_in-more counts at (first ∷ turns) actor =
+      ap (λ rest. answered_now counts at first ++ rest) (answered_in-more counts (behind counts at first) turns actor)
+      ∙ sym (append_assoc (answered_now counts at first) (answered_in counts (behind counts at first) turns) (answered_now counts (standing_after counts (behind counts at first) turns) actor))
+
+-- an actor stands elsewhere
+abbrev pub moved_to : ℕ → Standing → Standings → Standings
+moved_to actor standing at other = if nat_eq other actor then standing else at other
+
+with_turn-moved : (actor count : ℕ) (at : Standings) → with_turn actor count at ≡ moved_to actor (turned count (at actor)) at
+with_turn-moved actor count at i other = each other i
+  where
+    each : (other : ℕ) → with_turn actor count at other ≡ moved_to actor (turned count (at actor)) at other
+    each other =
+        elim (nat_eq other actor) as (λ b. nat_eq other actor ≡ b → (if b then turned count (at other) else at other) ≡ (if b then turned count (at actor) else at other)) [
+          | true ↦ λ same. let is : other ≡ actor = grind (arith, same) in ap (λ n. turned count (at n)) is
+          | false ↦ λ _. refl
+        ] refl
+
+-- a call has had so many turns already
+abbrev pub with_count : ℕ → ℕ → ℕ → TurnCounts → TurnCounts
+with_count actor seq count counts other n = if nat_eq other actor then (if nat_eq n seq then count else counts other n) else counts other n
+
+-- these turns are known to have been taken by the calls that are through, and fewer than they take by the others
+pub record Agrees (counts : TurnCounts) (at : Standings) (known : TurnCounts) : Type 0 where
+  pub through : (actor seq : ℕ) → seq ≤ (at actor).through → counts actor seq ≡ known actor seq
+  pub going : (actor : ℕ) → (at actor).had < counts actor (seq_at at actor)
+
+-- so far the turns answered these calls and led to where the actors stand, however many turns the calls take that aren't through
+abbrev pub IsWalked : List Line → Standings → TurnCounts → List ℕ → List (ℕ × ℕ) → Type 0
+IsWalked lines at known turns answered =
+    (counts : TurnCounts) → Agrees counts at known → (answered_in lines counts at_first turns ≡ answered) × (standing_after lines counts at_first turns ≡ at)
+
+-- a call is answered at its last turn
+abbrev pub IsAtLast : Call → Type 0
+IsAtLast call = (count : ℕ) → answering_turn call count ≡ count
+
+pub walk_begins : (lines : List Line) (known : TurnCounts) → IsWalked lines at_first known [] []
+walk_begins lines known counts agrees = (refl, refl)
+
+-- ---- one turn more
+
+-- what a turn answers and where it leads, where the call that it works on is known
+module _ (lines : List Line) (counts : TurnCounts) (at : Standings) (actor : ℕ) where
+  behind-none : next_call lines at actor ≡ None → behind lines counts at actor ≡ at
+  behind-none none = ap (λ o. option_map_or (λ call. with_turn actor (counts actor (seq_at at actor)) at) o at) none
+
+  now-none : next_call lines at actor ≡ None → answered_now lines counts at actor ≡ []
+  now-none none =
+      ap (λ o. option_map_or (λ call. if nat_eq ((at actor).had + 1) (answering_turn call (counts actor (seq_at at actor))) then (actor, seq_at at actor) ∷ [] else []) o []) none
+
+  behind-some : (call : Call) → next_call lines at actor ≡ Some call → behind lines counts at actor ≡ moved_to actor (turned (counts actor (seq_at at actor)) (at actor)) at
+  behind-some call is =
+      ap (λ o. option_map_or (λ call. with_turn actor (counts actor (seq_at at actor)) at) o at) is
+      ∙ with_turn-moved actor (counts actor (seq_at at actor)) at
+
+  now-some : (call : Call) → next_call lines at actor ≡ Some call → IsAtLast call
+      → answered_now lines counts at actor ≡ (if nat_eq ((at actor).had + 1) (counts actor (seq_at at actor)) then (actor, seq_at at actor) ∷ [] else [])
+  now-some call is last =
+      ap (λ o. option_map_or (λ call. if nat_eq ((at actor).had + 1) (answering_turn call (counts actor (seq_at at actor))) then (actor, seq_at at actor) ∷ [] else []) o []) is
+      ∙ ap (λ n. if nat_eq ((at actor).had + 1) n then (actor, seq_at at actor) ∷ [] else []) (last (counts actor (seq_at at actor)))
+
+-- it has had one turn more
+abbrev pub going_on : Standing → Standing
+going_on standing = record { through = standing.through; had = standing.had + 1 }
+
+-- its next call begins
+abbrev pub gone_on : Standing → Standing
+gone_on standing = record { through = standing.through + 1; had = 0 }
+
+turned-going : (count : ℕ) (standing : Standing) → standing.had + 1 < count → turned count standing ≡ going_on standing
+turned-going count standing less = let is : nat_lt (standing.had + 1) count ≡ true = grind (arith, nat_tests) in ap (λ b. if b then going_on standing else gone_on standing) is
+
+turned-gone : (count : ℕ) (standing : Standing) → count ≡ standing.had + 1 → turned count standing ≡ gone_on standing
+turned-gone count standing same = let is : nat_lt (standing.had + 1) count ≡ false = grind (arith, nat_tests) in ap (λ b. if b then going_on standing else gone_on standing) is
+
+same_number : (m n : ℕ) → nat_eq m n ≡ true → m ≡ n
+same_number m n h = grind (arith, nat_tests)
+
+-- what agrees with the turns behind one more agreed before it
+module _ (counts : TurnCounts) (at : Standings) (known : TurnCounts) (actor : ℕ) where
+  agreed-going : Agrees counts (moved_to actor (going_on (at actor)) at) known → Agrees counts at known
+  agreed-going agrees = record {
+    through = λ a seq within.
+        elim (nat_eq a actor) as (λ b. nat_eq a actor ≡ b → (seq ≤ (if b then going_on (at actor) else at a).through → counts a seq ≡ known a seq) → counts a seq ≡ known a seq) [
+          | true ↦ λ same h. let within : seq ≤ (at actor).through = subst (λ n. seq ≤ (at n).through) (same_number a actor same) within in h within
+          | false ↦ λ _ h. h within
+        ] refl (agrees.through a seq);
+    going = λ a.
+        elim (nat_eq a actor) as (λ b. nat_eq a actor ≡ b → (if b then going_on (at actor) else at a).had < counts a ((if b then going_on (at actor) else at a).through + 1) → (at a).had < counts a (seq_at at a)) [
+          | true ↦ λ same h.
+              let is : a ≡ actor = same_number a actor same in
+              let here : (at actor).had + 1 < counts actor (seq_at at actor) = subst (λ n. (at actor).had + 1 < counts n (seq_at at actor)) is h in
+              let less : (at actor).had < counts actor (seq_at at actor) = omega (arith, here) in
+              subst (λ n. (at n).had < counts n (seq_at at n)) (sym is) less
+          | false ↦ λ _ h. h
+        ] refl (agrees.going a);
+  }
+
+  going-count : Agrees counts (moved_to actor (going_on (at actor)) at) known → (at actor).had + 1 < counts actor (seq_at at actor)
+  going-count agrees =
+      let own : nat_eq actor actor ≡ true = grind (arith, nat_tests) in
+      subst (λ b. (if b then going_on (at actor) else at actor).had < counts actor ((if b then going_on (at actor) else at actor).through + 1)) own (agrees.going actor)
+
+  gone-count : Agrees counts (moved_to actor (gone_on (at actor)) at) (with_count actor (seq_at at actor) ((at actor).had + 1) known) → counts actor (seq_at at actor) ≡ (at actor).had + 1
+  gone-count agrees =
+      let own : nat_eq actor actor ≡ true = grind (arith, nat_tests) in
+      let first : nat_eq (seq_at at actor) (seq_at at actor) ≡ true = grind (arith, nat_tests) in
+      let within : seq_at at actor ≤ (if true then gone_on (at actor) else at actor).through = omega arith in
+      agrees.through actor (seq_at at actor) (subst (λ b. seq_at at actor ≤ (if b then gone_on (at actor) else at actor).through) (sym own) within)
+      ∙ ap (λ b. if b then (if nat_eq (seq_at at actor) (seq_at at actor) then (at actor).had + 1 else known actor (seq_at at actor)) else known actor (seq_at at actor)) own
+      ∙ ap (λ b. if b then (at actor).had + 1 else known actor (seq_at at actor)) first
+
+  agreed-gone : Agrees counts (moved_to actor (gone_on (at actor)) at) (with_count actor (seq_at at actor) ((at actor).had + 1) known) → Agrees counts at known
+  agreed-gone agrees = record {
+    through = λ a seq within.
+        elim (nat_eq a actor) as (λ b. nat_eq a actor ≡ b → (seq ≤ (if b then gone_on (at actor) else at a).through → counts a seq ≡ (if b then (if nat_eq seq (seq_at at actor) then (at actor).had + 1 else known a seq) else known a seq)) → counts a seq ≡ known a seq) [
+          | true ↦ λ same h.
+              let within : seq ≤ (at actor).through = subst (λ n. seq ≤ (at n).through) (same_number a actor same) within in
+              let later : nat_eq seq (seq_at at actor) ≡ false = grind (arith, nat_tests, within) in
+              h (omega (arith, within)) ∙ ap (λ b. if b then (at actor).had + 1 else known a seq) later
+          | false ↦ λ _ h. h within
+        ] refl (agrees.through a seq);
+    going = λ a.
+        elim (nat_eq a actor) as (λ b. nat_eq a actor ≡ b → (if b then gone_on (at actor) else at a).had < counts a ((if b then gone_on (at actor) else at a).through + 1) → (at a).had < counts a (seq_at at a)) [
+          | true ↦ λ same _.
+              let is : a ≡ actor = same_number a actor same in
+              let less : (at actor).had < counts actor (seq_at at actor) = omega (arith, gone-count agrees) in
+              subst (λ n. (at n).had < counts n (seq_at at n)) (sym is) less
+          | false ↦ λ _ h. h
+        ] refl (agrees.going a);
+  }
+
+module _ (lines : List Line) (at : Standings) (known : TurnCounts) (turns : List ℕ) (answered : List (ℕ × ℕ)) (walked : IsWalked lines at known turns answered) (actor : ℕ) where
+  -- what is answered and where all stand behind the turn, for counts that agreed before it
+  one_more : (counts : TurnCounts) → Agrees counts at known
+      → (answered_in lines counts at_first (turns ++ actor ∷ []) ≡ answered ++ answered_now lines counts at actor) × (standing_after lines counts at_first (turns ++ actor ∷ []) ≡ behind lines counts at actor)
+  one_more counts agrees =
+      let so_far = walked counts agrees in
+      (
+        answered_in-more lines counts at_first turns actor
+        ∙ ap (λ (stand : Standings). answered_in lines counts at_first turns ++ answered_now lines counts stand actor) so_far.1
+        ∙ ap (λ so_far. so_far ++ answered_now lines counts at actor) so_far.0,
+        standing_after-more lines counts at_first turns actor ∙ ap (λ (stand : Standings). behind lines counts stand actor) so_far.1,
+      )
+
+  -- a turn of the background, or of an actor whose calls are all through
+  pub walk_idle : next_call lines at actor ≡ None → IsWalked lines at known (turns ++ actor ∷ []) answered
+  walk_idle none counts agrees =
+      let more = one_more counts agrees in
+      (more.0 ∙ ap (λ now. answered ++ now) (now-none lines counts at actor none) ∙ append-nil answered, more.1 ∙ behind-none lines counts at actor none)
+
+  module _ (call : Call) (is : next_call lines at actor ≡ Some call) (last : IsAtLast call) where
+    -- a turn that doesn't answer its call
+    pub walk_going : IsWalked lines (moved_to actor (going_on (at actor)) at) known (turns ++ actor ∷ []) answered
+    walk_going counts agrees =
+        let more = one_more counts (agreed-going counts at known actor agrees) in
+        let less = going-count counts at known actor agrees in
+        let not_yet : nat_eq ((at actor).had + 1) (counts actor (seq_at at actor)) ≡ false = grind (arith, nat_tests, less) in
+        (
+          more.0 ∙ ap (λ now. answered ++ now) (now-some lines counts at actor call is last ∙ ap (λ b. if b then (actor, seq_at at actor) ∷ [] else []) not_yet) ∙ append-nil answered,
+          more.1 ∙ behind-some lines counts at actor call is ∙ ap (λ standing. moved_to actor standing at) (turned-going (counts actor (seq_at at actor)) (at actor) less),
+        )
+
+    -- a turn that answers it
+    pub walk_gone : IsWalked lines (moved_to actor (gone_on (at actor)) at) (with_count actor (seq_at at actor) ((at actor).had + 1) known) (turns ++ actor ∷ []) (answered ++ (actor, seq_at at actor) ∷ [])
+    walk_gone counts agrees =
+        let more = one_more counts (agreed-gone counts at known actor agrees) in
+        let same = gone-count counts at known actor agrees in
+        let now : nat_eq ((at actor).had + 1) (counts actor (seq_at at actor)) ≡ true = grind (arith, nat_tests, same) in
+        (
+          more.0 ∙ ap (λ now. answered ++ now) (now-some lines counts at actor call is last ∙ ap (λ b. if b then (actor, seq_at at actor) ∷ [] else []) now),
+          more.1 ∙ behind-some lines counts at actor call is ∙ ap (λ standing. moved_to actor standing at) (turned-gone (counts actor (seq_at at actor)) (at actor) same),
+        )
+
+-- ---- behind the last turn
+
+-- the calls that are left are those of the lines whose number their actor hasn't come to
+module _ (counts : TurnCounts) (at : Standings) (known : TurnCounts) (agrees : Agrees counts at known) where
+  is_left-ahead : (line : Line) → IsAtLast line.call → is_left counts at line ≡ nat_lt (at line.actor).through line.seq
+  is_left-ahead line last =
+      elim (nat_eq line.seq (seq_at at line.actor)) as (λ b. nat_eq line.seq (seq_at at line.actor) ≡ b
+      → (if b then nat_lt (at line.actor).had (answering_turn line.call (counts line.actor line.seq)) else nat_lt (at line.actor).through line.seq) ≡ nat_lt (at line.actor).through line.seq) [
+        | true ↦ λ first.
+            let is : line.seq ≡ seq_at at line.actor = same_number line.seq (seq_at at line.actor) first in
+            let going : (at line.actor).had < counts line.actor line.seq = subst (λ n. (at line.actor).had < counts line.actor n) (sym is) (agrees.going line.actor) in
+            let one : nat_lt (at line.actor).had (counts line.actor line.seq) ≡ true = grind (arith, nat_tests, going) in
+            let other : nat_lt (at line.actor).through line.seq ≡ true = grind (arith, nat_tests, is) in
+            ap (λ n. nat_lt (at line.actor).had n) (last (counts line.actor line.seq)) ∙ one ∙ sym other
+        | false ↦ λ _. refl
+      ] refl
+
+  left_ahead : (lines : List Line) → AllByRecursion (λ line. IsAtLast line.call) lines → filter (is_left counts at) lines ≡ filter (λ line. nat_lt (at line.actor).through line.seq) lines
+  left_ahead [] all = refl
+  left_ahead (line ∷ lines) all =
+      ap (λ b. cond b (line ∷ filter (is_left counts at) lines) (filter (is_left counts at) lines)) (is_left-ahead line all.0)
+      ∙ ap (λ rest. cond (nat_lt (at line.actor).through line.seq) (line ∷ rest) rest) (left_ahead lines all.1)
+
+-- what the turns of a script answer, and behind them the lines that are left
+pub walk_ends : (lines : List Line) (at : Standings) (known : TurnCounts) (turns : List ℕ) (answered : List (ℕ × ℕ)) → IsWalked lines at known turns answered
+    → (counts : TurnCounts) → Agrees counts at known → AllByRecursion (λ line. IsAtLast line.call) lines
+    → answered_by lines counts at_first turns ≡ answered ++ list_map place_of (filter (λ line. nat_lt (at line.actor).through line.seq) lines)
+walk_ends lines at known turns answered walked counts agrees all =
+    let so_far = walked counts agrees in
+    answered_by-parts lines counts at_first turns
+    ∙ ap (λ (stand : Standings). answered_in lines counts at_first turns ++ left_behind lines counts stand) so_far.1
+    ∙ ap (λ so_far. so_far ++ left_behind lines counts at) so_far.0
+    ∙ ap (λ left. answered ++ list_map place_of left) (left_ahead counts at known agrees lines all)
