@@ -46,11 +46,10 @@ take_more texts calls frozen counts past (first ∷ history) entry all here = (a
 pub take_same : (texts : Texts) (calls : CallsBy) (frozen : FrozenMaps) (counts others : TurnCounts) (past : Past) (history : List Entry) →
     AllByRecursion (λ entry. counts entry.actor entry.seq ≡ others entry.actor entry.seq) history → TakeTurns texts calls frozen counts past history → TakeTurns texts calls frozen others past history
 take_same texts calls frozen counts others past [] same all = tt
-take_same texts calls frozen counts others past (entry ∷ entries) same all =
-    (
-      weaker (calls entry.actor entry.seq) _ _ (λ call. subst (Takes (frozen_turns frozen past.world entry.actor call) call entry.reply) same.0) all.0,
-      take_same texts calls frozen counts others (past_after texts calls past entry) entries same.1 all.1,
-    )
+take_same texts calls frozen counts others past (entry ∷ entries) same all = (
+  weaker (calls entry.actor entry.seq) _ _ (λ call. subst (Takes (frozen_turns frozen past.world entry.actor call) call entry.reply) same.0) all.0,
+  take_same texts calls frozen counts others (past_after texts calls past entry) entries same.1 all.1,
+)
 
 -- ---- as a history goes on, more maps are frozen
 
@@ -127,8 +126,7 @@ module _ (maps more : FrozenMaps) (goes_on : GoesOn maps more) where
 
   pub take_longer : (texts : Texts) (calls : CallsBy) (counts : TurnCounts) (past : Past) (history : List Entry) → TakeTurns texts calls maps counts past history → TakeTurns texts calls more counts past history
   take_longer texts calls counts past [] all = tt
-  take_longer texts calls counts past (entry ∷ entries) all =
-      (
-        weaker (calls entry.actor entry.seq) _ _ (λ call. takes_longer (frozen_turns maps past.world entry.actor call) (frozen_turns more past.world entry.actor call) call entry.reply (counts entry.actor entry.seq) (frozen_turns-grows past.world entry.actor call)) all.0,
-        take_longer texts calls counts (past_after texts calls past entry) entries all.1,
-      )
+  take_longer texts calls counts past (entry ∷ entries) all = (
+    weaker (calls entry.actor entry.seq) _ _ (λ call. takes_longer (frozen_turns maps past.world entry.actor call) (frozen_turns more past.world entry.actor call) call entry.reply (counts entry.actor entry.seq) (frozen_turns-grows past.world entry.actor call)) all.0,
+    take_longer texts calls counts (past_after texts calls past entry) entries all.1,
+  )

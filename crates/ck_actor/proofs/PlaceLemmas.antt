@@ -1,10 +1,11 @@
 -- An actor's numbers in the lines before a place.
-use Rattle.std.proofs.Common.{◌≡◌, ℕ, zero, suc, ◌+◌, ◌<◌, ◌≤◌, Bool, true, false, cond, Some, None, List, [], ◌∷◌, ◌++◌, length, take, drop, get_or, nat_eq, if◌then◌else◌, refl, sym, ap, ◌∙◌, subst, arith, drop-cons, length-append}
+use Rattle.std.proofs.Common.{◌≡◌, ℕ, zero, suc, ◌+◌, ◌<◌, ◌≤◌, Bool, true, false, cond, Some, None, IfSome, List, [], ◌∷◌, ◌++◌, length, take, drop, get_or, nat_eq, if◌then◌else◌, inl, inr, refl, sym, ap, ◌∙◌, subst, arith, drop-cons, length-append}
 use Rattle.std.specs.Prelude.{slice_get}
 use Rattle.std.specs.List.{cons_option, range_with_len}
 use Rattle.std.proofs.lemmas.Bool.Decides.{nat_tests}
 use Rattle.std.proofs.lemmas.List.{take_more, take-append-drop, append-nil}
 use Rattle.std.proofs.lemmas.List.Elements.{filter_map-append}
+use Rattle.std.proofs.lemmas.Option.{slice_get_read, slice_get_past, slice_get_cases}
 use Rattle.ck_script.specs.declared.line.Line.{Line}
 use Rattle.ck_script.specs.Numbered.{numbers_in, IsNumbered}
 
@@ -74,3 +75,28 @@ own_number lines at line actor numbered within is own =
     ∙ ap (λ xs. slice_get xs (length numbers)) (sym around ∙ numbered actor)
     ∙ range_here 1 (length (numbers_in lines actor)) (length numbers) (left_at lines at line actor within is own) in
     omega (arith, some_same line.seq (1 + length numbers) here)
+
+-- what is read of a line's actor holds of the line at that place
+pub own_there : (lines : List Line) (at : ℕ) (line : Line) (actor : ℕ) → at < length lines → line ≡ get_or lines at line → line.actor ≡ actor → IfSome (slice_get lines at) (λ line. line.actor ≡ actor)
+own_there lines at line actor within is own =
+    subst (λ found. IfSome found (λ line. line.actor ≡ actor)) (sym (slice_get_read lines (length lines) at line refl within is)) own
+
+pub none_there : (lines : List Line) (at actor : ℕ) → length lines ≤ at → IfSome (slice_get lines at) (λ line. line.actor ≡ actor)
+none_there lines at actor past = subst (λ found. IfSome found (λ line. line.actor ≡ actor)) (sym (slice_get_past lines at past)) tt
+
+-- and the other way round
+pub own_at : (lines : List Line) (at : ℕ) (line : Line) (actor : ℕ) → at < length lines → line ≡ get_or lines at line → IfSome (slice_get lines at) (λ line. line.actor ≡ actor) → nat_eq line.actor actor ≡ true
+own_at lines at line actor within is own =
+    let same : line.actor ≡ actor = subst (λ found. IfSome found (λ line. line.actor ≡ actor)) (slice_get_read lines (length lines) at line refl within is) own in
+    grind (arith, nat_tests, same)
+
+-- behind the actor's own line one more was answered
+pub one_answered : (lines : List Line) (at : ℕ) (line : Line) (actor : ℕ) → at < length lines → line ≡ get_or lines at line → nat_eq line.actor actor ≡ true → length (numbers_in (take (at + 1) lines) actor) ≡ length (numbers_in (take at lines) actor) + 1
+one_answered lines at line actor within is own = ap (λ (numbers : List ℕ). length numbers) (own_line lines at line actor within is own) ∙ simp length-append
+
+pub one_answered_there : (lines : List Line) (at actor : ℕ) → at < length lines → IfSome (slice_get lines at) (λ line. line.actor ≡ actor) → length (numbers_in (take (at + 1) lines) actor) ≡ length (numbers_in (take at lines) actor) + 1
+one_answered_there lines at actor within own =
+    elim (slice_get_cases lines at).1 [
+      | inl there ↦ one_answered lines at there.0 actor within (sym there.3) (own_at lines at there.0 actor within (sym there.3) own)
+      | inr past ↦ absurd (omega (arith, within, past.0))
+    ]

@@ -216,11 +216,10 @@ module _ (lines : List Line) (at : Standings) (known : TurnCounts) (turns : List
   one_more : (counts : TurnCounts) → Agrees counts at known
       → (answered_in lines counts at_first (turns ++ actor ∷ []) ≡ answered ++ answered_now lines counts at actor) × (standing_after lines counts at_first (turns ++ actor ∷ []) ≡ behind lines counts at actor)
   one_more counts agrees =
-      let so_far = walked counts agrees in
-      (
+      let so_far = walked counts agrees in (
         answered_in-more lines counts at_first turns actor
-        ∙ ap (λ (stand : Standings). answered_in lines counts at_first turns ++ answered_now lines counts stand actor) so_far.1
-        ∙ ap (λ so_far. so_far ++ answered_now lines counts at actor) so_far.0,
+            ∙ ap (λ (stand : Standings). answered_in lines counts at_first turns ++ answered_now lines counts stand actor) so_far.1
+            ∙ ap (λ so_far. so_far ++ answered_now lines counts at actor) so_far.0,
         standing_after-more lines counts at_first turns actor ∙ ap (λ (stand : Standings). behind lines counts stand actor) so_far.1,
       )
 
@@ -236,8 +235,7 @@ module _ (lines : List Line) (at : Standings) (known : TurnCounts) (turns : List
     walk_going counts agrees =
         let more = one_more counts (agreed-going counts at known actor agrees) in
         let less = going-count counts at known actor agrees in
-        let not_yet : nat_eq ((at actor).had + 1) (counts actor (seq_at at actor)) ≡ false = grind (arith, nat_tests, less) in
-        (
+        let not_yet : nat_eq ((at actor).had + 1) (counts actor (seq_at at actor)) ≡ false = grind (arith, nat_tests, less) in (
           more.0 ∙ ap (λ now. answered ++ now) (now-some lines counts at actor call is last ∙ ap (λ b. if b then (actor, seq_at at actor) ∷ [] else []) not_yet) ∙ append-nil answered,
           more.1 ∙ behind-some lines counts at actor call is ∙ ap (λ standing. moved_to actor standing at) (turned-going (counts actor (seq_at at actor)) (at actor) less),
         )
@@ -247,8 +245,7 @@ module _ (lines : List Line) (at : Standings) (known : TurnCounts) (turns : List
     walk_gone counts agrees =
         let more = one_more counts (agreed-gone counts at known actor agrees) in
         let same = gone-count counts at known actor agrees in
-        let now : nat_eq ((at actor).had + 1) (counts actor (seq_at at actor)) ≡ true = grind (arith, nat_tests, same) in
-        (
+        let now : nat_eq ((at actor).had + 1) (counts actor (seq_at at actor)) ≡ true = grind (arith, nat_tests, same) in (
           more.0 ∙ ap (λ now. answered ++ now) (now-some lines counts at actor call is last ∙ ap (λ b. if b then (actor, seq_at at actor) ∷ [] else []) now),
           more.1 ∙ behind-some lines counts at actor call is ∙ ap (λ standing. moved_to actor standing at) (turned-gone (counts actor (seq_at at actor)) (at actor) same),
         )
