@@ -1,5 +1,5 @@
 -- Histories that follow their scripts, and one that doesn't.
-use Rattle.std.proofs.Common.{◌≡◌, ◌≤◌, ℕ, ◌+◌, ◌&&◌, Bool, true, false, cond, List, [], ◌∷◌, ◌++◌, length, nat_eq, codes, refl, ap, arith}
+use Rattle.std.proofs.Common.{◌≡◌, ℕ, ◌+◌, ◌&&◌, false, cond, List, [], ◌∷◌, ◌++◌, length, nat_eq, codes, refl, ap, arith}
 use Rattle.std.specs.Prelude.{replicate}
 use Rattle.std.specs.List.{AllByRecursion, slice_index_or}
 use Rattle.ck_laws.specs.Laws.{frozen}

@@ -5,7 +5,7 @@ use Rattle.ck_laws.specs.Laws.{frozen}
 use Rattle.ck_model.specs.declared.call.Call.{Call}
 use Rattle.ck_model.specs.declared.call.Call.TheVariants.{Nodata}
 use Rattle.ck_model.specs.declared.entry.Entry.{Entry}
-use Rattle.ck_model.specs.History.{CallsBy, begun, call_at}
+use Rattle.ck_model.specs.History.{begun, call_at}
 use Rattle.ck_model.specs.Streams.{Texts}
 use Rattle.ck_model.specs.World.{World}
 use Rattle.ck_script.specs.declared.line.Line.{Line}

@@ -1,4 +1,4 @@
-use Rattle.std.proofs.Common.{ℕ, List, ◌+◌, length, take, ap, ◌∙◌}
+use Rattle.std.proofs.Common.{ℕ, List, length, take, ap, ◌∙◌}
 use Rattle.ck_script.specs.Numbered.{numbers_in}
 use Rattle.ck_actor.proofs.PlaceLemmas.{one_answered_there}
 use Rattle.ck_actor.proofs.place.Place.step.Goals as goal
