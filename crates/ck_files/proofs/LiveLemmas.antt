@@ -1,5 +1,5 @@
 -- The checkpoints of a table that aren't gone, as another table has them.
-use Rattle.std.proofs.Common.{◌≡◌, ℕ, Bool, true, false, not, cond, ◌&&◌, IsSome, is_some, if◌then◌else◌, List, [], ◌∷◌, map as list_map, filter, Option, Some, None, nat_eq, refl, sym, ap, subst, ◌∙◌, arith}
+use Rattle.std.proofs.Common.{◌≡◌, ℕ, Bool, true, false, not, cond, T, ◌&&◌, IsSome, is_some, if◌then◌else◌, List, [], ◌∷◌, map as list_map, filter, Option, Some, None, nat_eq, refl, sym, ap, subst, ◌∙◌, arith}
 use Rattle.std.specs.Ordering.{nat_cmp}
 use Rattle.std.specs.declared.cmp.Ordering.TheVariants.{Equal}
 use Rattle.std.specs.Option.{option_map, option_map_or}
@@ -84,7 +84,7 @@ live_same old new same = same_found (live_filesets new) (live_filesets old) (liv
 
 -- ---- one is gone
 
-get_gone : (t : Table) (id q : ℕ) → map.get (with_gone t id).filesets q ≡ cond (nat_eq q id) (option_map as_gone (map.get t.filesets id)) (map.get t.filesets q)
+pub get_gone : (t : Table) (id q : ℕ) → map.get (with_gone t id).filesets q ≡ cond (nat_eq q id) (option_map as_gone (map.get t.filesets id)) (map.get t.filesets q)
 get_gone t id q = get-recorded t.filesets id (option_map as_gone (map.get t.filesets id)) q
 
 none_live : (o : Option Fileset) → option_map_or (λ (f : Fileset). not f.gone) (option_map as_gone o) false ≡ false

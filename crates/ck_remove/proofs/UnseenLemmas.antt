@@ -1,5 +1,5 @@
 -- Nobody sees a step of a removal who reads the primary or a checkpoint that isn't gone.
-use Rattle.std.proofs.Common.{◌≡◌, ℕ, ◌+◌, true, false, cond, Some, None, nat_eq, refl, sym, ap, ◌∙◌, arith}
+use Rattle.std.proofs.Common.{◌≡◌, ℕ, ◌+◌, ◌⊎◌, inl, inr, true, false, cond, Some, None, nat_eq, refl, sym, ap, ◌∙◌, arith}
 use Rattle.std.specs.Option.{option_map_or}
 use Rattle.std.specs.FinMap as map
 use Rattle.std.proofs.lemmas.Bool.{eqb-true, false≢true, true≢false, false_from_ne_true}
@@ -35,7 +35,7 @@ unseen_without t g key h lawful oldest at =
           each_primary u key ids positive (older_live t g) q
           ∙ moved_elsewhere t g key h lawful at 0 (λ e. absurd (omega (arith, e, above))) (λ n next e. let least = next.above in absurd (omega (arith, e, least))) q;
       filesets = λ fs kept. refl;
-      gone = λ fs gone. refl;
+      gone = λ fs gone. inr refl;
       counters = refl;
       blocks = refl;
       limit = refl;
@@ -51,8 +51,7 @@ unseen_unlinked t g gone same count = record {
   seen = λ fs key live. same fs key;
   primary = λ key. refl;
   filesets = λ fs kept. get-recorded_other t.filesets g None fs (false_from_ne_true (nat_eq fs g) (λ e. true≢false (sym gone ∙ ap (is_gone t) (sym (eqb-true fs g e)) ∙ kept)));
-  gone = λ fs still. get-recorded_other t.filesets g None fs (false_from_ne_true (nat_eq fs g) (λ e.
-      false≢true (sym (ap (λ o. option_map_or (λ (f : Fileset). f.gone) o false) (get-recorded t.filesets g None fs ∙ ap (λ b. cond b None (map.get t.filesets fs)) e)) ∙ still)));
+  gone = λ fs gone. leaves fs;
   counters = refl;
   blocks = refl;
   limit = refl;
@@ -60,3 +59,10 @@ unseen_unlinked t g gone same count = record {
   extents = omega arith;
   named = λ block named. named;
 }
+  where
+    leaves : (fs : ℕ) → (map.get (with_fileset t g None).filesets fs ≡ None) ⊎ (map.get (with_fileset t g None).filesets fs ≡ map.get t.filesets fs)
+    leaves fs =
+        elim (nat_eq fs g) as (λ b. map.get (with_fileset t g None).filesets fs ≡ cond b None (map.get t.filesets fs) → (map.get (with_fileset t g None).filesets fs ≡ None) ⊎ (map.get (with_fileset t g None).filesets fs ≡ map.get t.filesets fs)) [
+          | true ↦ λ is. inl is
+          | false ↦ λ is. inr is
+        ] (get-recorded t.filesets g None fs)

@@ -1,5 +1,5 @@
 -- A change of a table that nobody sees who reads the primary or a checkpoint that isn't gone.
-use Rattle.std.specs.Prelude.{◌≡◌, ◌≤◌, ℕ, true, false}
+use Rattle.std.specs.Prelude.{◌≡◌, ◌≤◌, ◌⊎◌, ℕ, true, false, None}
 use Rattle.std.specs.FinMap as map
 use Rattle.ck_model.specs.declared.key.Key.{Key}
 use Rattle.ck_model.specs.Table.{Table, column, record_count}
@@ -11,9 +11,9 @@ pub record IsUnseen (old new : Table) : Type 0 where
   -- every reader of a checkpoint that isn't gone sees what it saw
   pub seen : (fs : ℕ) (key : Key) → is_live old fs ≡ true → seen new fs key ≡ seen old fs key
   pub primary : (key : Key) → column new key 0 ≡ column old key 0
-  -- the records of those stay, and no other checkpoint is there or gone
+  -- the records of all others stay, and one that is gone leaves or stays as it is
   pub filesets : (fs : ℕ) → is_gone old fs ≡ false → map.get new.filesets fs ≡ map.get old.filesets fs
-  pub gone : (fs : ℕ) → is_gone new fs ≡ true → map.get new.filesets fs ≡ map.get old.filesets fs
+  pub gone : (fs : ℕ) → is_gone old fs ≡ true → (map.get new.filesets fs ≡ None) ⊎ (map.get new.filesets fs ≡ map.get old.filesets fs)
   pub counters : new.counters ≡ old.counters
   pub blocks : new.blocks ≡ old.blocks
   pub limit : new.records ≡ old.records

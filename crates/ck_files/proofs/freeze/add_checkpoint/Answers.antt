@@ -12,13 +12,13 @@ use Rattle.ck_files.specs.Freeze.{refusal_of, refused_or}
 use Rattle.ck_files.specs.Plain.{IsPlain}
 use Rattle.ck_files.specs.Room.{answered_with}
 use Rattle.ck_files.proofs.CreateLemmas.{created-refused, created-lack, created-fits, new_id-next, plain_added, world-added}
-use Rattle.ck_files.proofs.freeze.create.Goals as goal
+use Rattle.ck_files.proofs.freeze.add_checkpoint.Goals as goal
 
 pub returns-then-spare-eq0-clause-reply : goal.returns-then-spare-eq0-clause-reply
 returns-then-spare-eq0-clause-reply g c store mounts =
     let t = g.M.Meta.table c.args.meta.now in
     let w = world_on store mounts t in
-    created-lack store mounts t c.requires.ours c.args.name.now c.args.at (sym c.spare.ensures ∙ c.if-spare-eq0.true)
+    created-lack store mounts t c.requires.ours c.args.name.now c.args.at (c.requires.full (sym c.spare.ensures ∙ c.if-spare-eq0.true)) (sym c.spare.ensures ∙ c.if-spare-eq0.true)
     ∙ ap (λ (l : Limits). answered_with (refused_or l.checkpoints (NoSpace Records l.records 1 l.records) (new_id t c.args.name.now)) w) (sym c.requires.limits)
     ∙ ap (λ reply. answered_with reply w) (sym c.lack.ensures)
 
