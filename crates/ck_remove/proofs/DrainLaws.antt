@@ -122,7 +122,7 @@ step_is t item lawful sound is =
           record {
             lawful = lawful_unlinked t item.id lawful;
             sound = sound-unlinked t item.id oldest.gone empty sound;
-            unseen = unseen_unlinked t item.id oldest.gone (seen-unlinked t item.id oldest.gone empty) (record_count-unlinked t item.id oldest.gone);
+            unseen = unseen_unlinked t item.id oldest.gone empty (seen-unlinked t item.id oldest.gone empty) (record_count-unlinked t item.id oldest.gone);
             left = left_unlinked t item.id lawful oldest.gone empty;
           }
     ] refl
@@ -142,8 +142,10 @@ pub unseen_itself : (t : Table) → IsUnseen t t
 unseen_itself t = record {
   seen = λ fs key live. refl;
   primary = λ key. refl;
+  keeps = λ fs. refl;
+  dropped = λ fs key stamp block drops there. there;
   filesets = λ fs kept. refl;
-  gone = λ fs gone. inr refl;
+  gone = λ fs gone. inl refl;
   counters = refl;
   blocks = refl;
   limit = refl;
@@ -156,10 +158,12 @@ pub unseen_both : (t u v : Table) → IsUnseen t u → IsUnseen u v → IsUnseen
 unseen_both t u v first second = record {
   seen = λ fs key live. second.seen fs key (gone_after t u first fs live) ∙ first.seen fs key live;
   primary = λ key. second.primary key ∙ first.primary key;
+  keeps = λ fs. second.keeps fs ∙ first.keeps fs;
+  dropped = λ fs key stamp block drops there. first.dropped fs key stamp block drops (second.dropped fs key stamp block (first.keeps fs ∙ drops) there);
   filesets = λ fs kept. let same = first.filesets fs kept in second.filesets fs (ap (λ o. option_map_or (λ (f : Fileset). f.gone) o false) same ∙ kept) ∙ same;
   gone = λ fs gone. elim (first.gone fs gone) [
-    | inl left ↦ inl (second.filesets fs (ap (λ o. option_map_or (λ (f : Fileset). f.gone) o false) left) ∙ left)
-    | inr stays ↦ elim (second.gone fs (ap (λ o. option_map_or (λ (f : Fileset). f.gone) o false) stays ∙ gone)) [ inl left ↦ inl left | inr still ↦ inr (still ∙ stays) ]
+    | inl stays ↦ elim (second.gone fs (ap (λ o. option_map_or (λ (f : Fileset). f.gone) o false) stays ∙ gone)) [ inl still ↦ inl (still ∙ stays) | inr left ↦ inr left ]
+    | inr left ↦ inr (second.filesets fs (ap (λ o. option_map_or (λ (f : Fileset). f.gone) o false) left) ∙ left)
   ];
   counters = second.counters ∙ first.counters;
   blocks = second.blocks ∙ first.blocks;

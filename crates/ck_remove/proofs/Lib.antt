@@ -10,4 +10,5 @@ pub mod ExtentLaws
 pub mod ExtentLemmas
 pub mod UnseenLemmas
 pub mod RoomLemmas
+pub mod WorldLaws
 pub mod DrainLaws
