@@ -41,7 +41,7 @@ module _ (layout : Layout) (t : Table) (ours : IsOurs t) (blocks : t.blocks ≡ 
   pub written-built : is_unbuilt (slots_for layout t) ≡ false
   written-built = built_written (32 * table_blocks layout.records) t (λ id f has.
       let plain = ours.plain id f has in
-      (λ i. plain.gone i || not (plain.keeps i) || plain.stays i))
+      (λ i. not (plain.keeps i) || plain.stays i))
 
   pub written-undamaged : damage layout.blocks layout.records (slots_for layout t) ≡ None
   written-undamaged = (λ i. damage (sym blocks i) (sym records i) (slots_for layout t)) ∙ undamaged_written (32 * table_blocks layout.records) t ours.lawful ours.sound ours.sized

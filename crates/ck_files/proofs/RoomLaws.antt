@@ -19,12 +19,13 @@ use Rattle.ck_model.specs.TableWorld.{checkpoint_on, live_filesets, world_on, ex
 use Rattle.ck_model.proofs.CountLaws.{records_are, extents_are}
 use Rattle.ck_model.proofs.CaseLaws.{some_is}
 use Rattle.ck_remove.proofs.DrainLaws.{drained}
+use Rattle.ck_remove.proofs.WorldLaws.{unseen_world}
 use Rattle.ck_model.specs.Placed.{NoneGone, AllStripped}
 use Rattle.ck_files.specs.Plain.{IsPlain, IsOurs}
 use Rattle.ck_files.specs.Room.{Grows, has_room, lack_of_room, answered_with}
 use Rattle.ck_files.proofs.Checkpoints.{keeps_itself}
 use Rattle.ck_files.proofs.LiveLemmas.{Stands, each_stands}
-use Rattle.ck_files.proofs.UnseenLemmas.{world_unseen, plain_unseen}
+use Rattle.ck_files.proofs.UnseenLemmas.{plain_unseen}
 
 pub all_stripped : (t : Table) → IsTable t → IsSound t → IsPlain t → NoneGone t → AllStripped t
 all_stripped t lawful sound plain none fs key stamp block has = elim (sound.orderly.homes fs key (ap is_some has)) [
@@ -47,8 +48,8 @@ module _ (store : Store) (mounts : Mounts) (t : Table) (lawful : IsTable t) (sou
   held-within =
       let u = drained t lawful sound in
       let is = u.1 in
-      let same = ap held (world_unseen t u.0 lawful plain is.unseen store mounts) in
-      let counted = held-is store mounts u.0 is.lawful is.sound (plain_unseen t u.0 lawful plain is.unseen) is.none in
+      let same = ap held (unseen_world t u.0 lawful is.lawful is.unseen store mounts) in
+      let counted = held-is store mounts u.0 is.lawful is.sound (plain_unseen t u.0 plain is.unseen) is.none in
       let less = is.unseen.extents in
       omega (arith, same, counted, less)
 
@@ -56,7 +57,7 @@ module _ (store : Store) (mounts : Mounts) (t : Table) (lawful : IsTable t) (sou
   records-within =
       let u = drained t lawful sound in
       let is = u.1 in
-      let same = ap records_in (world_unseen t u.0 lawful plain is.unseen store mounts) in
+      let same = ap records_in (unseen_world t u.0 lawful is.lawful is.unseen store mounts) in
       let counted = records-is store mounts u.0 is.lawful is.sound is.none in
       let less = is.unseen.records in
       omega (arith, same, counted, less)

@@ -14,14 +14,14 @@ give_up-requires g c =
     c.args.blocks.now c.requires.allocated block is)
 
 pub returns-clause-alike : goal.returns-clause-alike
-returns-clause-alike g c = alike_unseen (g.M.Meta.table c.args.meta.now) (g.M.Meta.table c.step-freed.new.meta) c.requires.ours.lawful c.requires.ours.plain c.step-freed.ensures.unseen
+returns-clause-alike g c = alike_unseen (g.M.Meta.table c.args.meta.now) (g.M.Meta.table c.step-freed.new.meta) c.requires.ours.lawful (g.met.M.Meta.lawful c.step-freed.new.meta) c.step-freed.ensures.unseen
 
 pub returns-clause-ours : goal.returns-clause-ours
 returns-clause-ours g c = record {
   lawful = g.met.M.Meta.lawful c.step-freed.new.meta;
   sized = g.met.M.Meta.sized c.step-freed.new.meta;
   sound = c.step-freed.ensures.sound;
-  plain = plain_unseen (g.M.Meta.table c.args.meta.now) (g.M.Meta.table c.step-freed.new.meta) c.requires.ours.lawful c.requires.ours.plain c.step-freed.ensures.unseen;
+  plain = plain_unseen (g.M.Meta.table c.args.meta.now) (g.M.Meta.table c.step-freed.new.meta) c.requires.ours.plain c.step-freed.ensures.unseen;
 }
 
 pub returns-clause-allocated : goal.returns-clause-allocated
