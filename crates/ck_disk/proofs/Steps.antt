@@ -1,9 +1,10 @@
 -- One step more in the record of a disk in memory.
 use Rattle.std.proofs.Common.{◌≡◌, ◌≢◌, inl, inr, ⊎_elim, ◌≤◌, ◌<◌, ◌+◌, ◌||◌, ◌++◌, ℕ, Bool, true, false, nat_eq, List, [], ◌∷◌, length, get_or, set, take, drop, refl, sym, ◌∙◌, ap, subst, arith, get_or-set_same, get_or-set_other, ext_get_or, set-set}
 use Rattle.std.proofs.lemmas.List.{length-set, set-get_or, take-append-le, drop-append-le, length_push}
+use Rattle.std.proofs.lemmas.List.Elements.{All-get_or, All-set}
 use Rattle.std.proofs.lemmas.Bool.{cases_eq, cases_lt}
 use Rattle.std.proofs.lemmas.Bool.Decides.{nat_tests}
-use Rattle.ck_disk.specs.Disk.{Image, Step, TearsAt, Within, Only, KeepsCleanBut}
+use Rattle.ck_disk.specs.Disk.{Image, IsBlock, AreBlocks, Step, TearsAt, Within, Only, KeepsCleanBut}
 use Rattle.ck_disk.proofs.MomentLaws.{torn_same}
 use Rattle.ck_disk.specs.declared.mem_disk.MemStep.{MemStep}
 use Rattle.ck_disk.specs.declared.mem_disk.MemStep.TheVariants.{Write, Sync}
@@ -53,8 +54,8 @@ module _ (steps : List MemStep) (s : MemStep) (old new : Image) (undo : undone (
 other_block : (at k : ℕ) → k ≢ at → (nat_eq at k || false) ≡ false
 other_block at k ne = grind (arith, nat_tests)
 
-pub write_torn : (steps : List MemStep) (blocks : Image) (at : ℕ) (b : List ℕ) → at < length blocks → TearsAt at (IsLeft steps blocks) (IsLeft (steps ++ Write at (get_or blocks at []) ∷ []) (set blocks at b))
-write_torn steps blocks at b lt c left = (set c at (get_or blocks at []), get_or c at [], image, sym (set-set c at (get_or blocks at []) (get_or c at []) ∙ set-get_or c at []))
+pub write_torn : (steps : List MemStep) (blocks : Image) (at : ℕ) (b : List ℕ) → at < length blocks → AreBlocks blocks → TearsAt at (IsLeft steps blocks) (IsLeft (steps ++ Write at (get_or blocks at []) ∷ []) (set blocks at b))
+write_torn steps blocks at b lt consists c left = (set c at (get_or blocks at []), get_or c at [], image, sym (set-set c at (get_or blocks at []) (get_or c at []) ∙ set-get_or c at []))
   where
     size : length c ≡ length blocks
     size = left.size ∙ length-set blocks at b
@@ -68,6 +69,7 @@ write_torn steps blocks at b lt c left = (set c at (get_or blocks at []), get_or
     image : IsLeft steps blocks (set c at (get_or blocks at []))
     image = record {
       size = length-set c at (get_or blocks at []) ∙ size;
+      consists = All-set IsBlock c at (get_or blocks at []) (All-get_or IsBlock blocks at [] lt consists) left.consists;
       same = λ k is. ⊎_elim
           (λ (e : k ≡ at). subst (λ (j : ℕ). get_or (set c at (get_or blocks at [])) j [] ≡ get_or blocks j []) (sym e) here)
           (λ (ne : k ≢ at). get_or-set_other c at k (get_or blocks at []) [] ne ∙ left.same k (clean k ne is) ∙ get_or-set_other blocks at k b [] ne)
@@ -78,23 +80,23 @@ pub sync_only : (steps : List MemStep) (blocks : Image) → Only blocks (IsLeft 
 sync_only steps blocks c left = ext_get_or [] c blocks left.size (λ k lt. left.same k (written_push steps Sync k false))
 
 pub sync_within : (steps : List MemStep) (blocks : Image) → Within (IsLeft (steps ++ Sync ∷ []) blocks) (IsLeft steps blocks)
-sync_within steps blocks c left = subst (λ (x : Image). IsLeft steps blocks x) (sym (sync_only steps blocks c left)) (record { size = refl; same = λ k is. refl })
+sync_within steps blocks c left = subst (λ (x : Image). IsLeft steps blocks x) (sym (sync_only steps blocks c left)) (record { size = refl; consists = subst AreBlocks (sync_only steps blocks c left) left.consists; same = λ k is. refl })
 
 pub pushed_to : (steps steps' : List MemStep) (s : MemStep) (old new : Image) (r w r' w' : ℕ) → steps' ≡ steps ++ s ∷ [] → undone (s ∷ []) new ≡ old → length new ≡ length old → r ≤ r' → w ≤ w'
     → Step (mem_means steps old r w) (mem_means steps' new r' w')
 pushed_to steps steps' s old new r w r' w' is undo size reads writes =
     subst (λ (l : List MemStep). Step (mem_means steps old r w) (mem_means l new r' w')) (sym is) (pushed steps s old new undo r w r' w' size reads writes)
 
-pub torn_to : (steps steps' : List MemStep) (blocks : Image) (at : ℕ) (was b : List ℕ) → steps' ≡ steps ++ Write at was ∷ [] → was ≡ get_or blocks at [] → at < length blocks
+pub torn_to : (steps steps' : List MemStep) (blocks : Image) (at : ℕ) (was b : List ℕ) → steps' ≡ steps ++ Write at was ∷ [] → was ≡ get_or blocks at [] → at < length blocks → AreBlocks blocks
     → TearsAt at (IsLeft steps blocks) (IsLeft steps' (set blocks at b))
-torn_to steps steps' blocks at was b is same lt =
-    subst (λ (l : List MemStep). TearsAt at (IsLeft steps blocks) (IsLeft l (set blocks at b))) (sym (is ∙ ap (λ (x : List ℕ). steps ++ Write at x ∷ []) same)) (write_torn steps blocks at b lt)
+torn_to steps steps' blocks at was b is same lt consists =
+    subst (λ (l : List MemStep). TearsAt at (IsLeft steps blocks) (IsLeft l (set blocks at b))) (sym (is ∙ ap (λ (x : List ℕ). steps ++ Write at x ∷ []) same)) (write_torn steps blocks at b lt consists)
 
 -- a write that failed counts as written
-pub torn_failed : (steps steps' : List MemStep) (blocks : Image) (at : ℕ) (was : List ℕ) → steps' ≡ steps ++ Write at was ∷ [] → was ≡ get_or blocks at [] → at < length blocks
+pub torn_failed : (steps steps' : List MemStep) (blocks : Image) (at : ℕ) (was : List ℕ) → steps' ≡ steps ++ Write at was ∷ [] → was ≡ get_or blocks at [] → at < length blocks → AreBlocks blocks
     → TearsAt at (IsLeft steps blocks) (IsLeft steps' blocks)
-torn_failed steps steps' blocks at was is same lt =
-    subst (λ (x : Image). TearsAt at (IsLeft steps blocks) (IsLeft steps' x)) (set-get_or blocks at []) (torn_to steps steps' blocks at was (get_or blocks at []) is same lt)
+torn_failed steps steps' blocks at was is same lt consists =
+    subst (λ (x : Image). TearsAt at (IsLeft steps blocks) (IsLeft steps' x)) (set-get_or blocks at []) (torn_to steps steps' blocks at was (get_or blocks at []) is same lt consists)
 
 pub torn_none : (steps steps' : List MemStep) (blocks : Image) (at : ℕ) → steps' ≡ steps → TearsAt at (IsLeft steps blocks) (IsLeft steps' blocks)
 torn_none steps steps' blocks at is = subst (λ (l : List MemStep). TearsAt at (IsLeft steps blocks) (IsLeft l blocks)) (sym is) (torn_same at (IsLeft steps blocks))
@@ -110,16 +112,6 @@ only_to steps steps' blocks is = subst (λ (l : List MemStep). Only blocks (IsLe
 
 pub within_to : (steps steps' : List MemStep) (blocks : Image) → steps' ≡ steps ++ Sync ∷ [] → Within (IsLeft steps' blocks) (IsLeft steps blocks)
 within_to steps steps' blocks is = subst (λ (l : List MemStep). Within (IsLeft l blocks) (IsLeft steps blocks)) (sym is) (sync_within steps blocks)
-
--- a block that was written since the last sync, replaced
-pub torn_more : (steps : List MemStep) (blocks c : Image) (at : ℕ) (b : List ℕ) → is_written steps at false ≡ true → IsLeft steps blocks c → IsLeft steps blocks (set c at b)
-torn_more steps blocks c at b dirty left = record {
-  size = length-set c at b ∙ left.size;
-  same = λ k is. get_or-set_other c at k b [] (other k is) ∙ left.same k is;
-}
-  where
-    other : (k : ℕ) → is_written steps k false ≡ false → k ≡ at → ⊥
-    other k is e = let clean : is_written steps at false ≡ false = subst (λ (j : ℕ). is_written steps j false ≡ false) e is in cc
 
 pub marks_write : (steps steps' : List MemStep) (at : ℕ) (was : List ℕ) → steps' ≡ steps ++ Write at was ∷ [] → (k : ℕ) → k ≢ at → is_written steps k false ≡ false → is_written steps' k false ≡ false
 marks_write steps steps' at was is k ne clean =
@@ -146,9 +138,9 @@ stayed steps steps' blocks r w r' w' is reads writes =
 
 -- a write that failed, whether the record has it or not
 module _ (steps steps' : List MemStep) (blocks : Image) (at : ℕ) (was : List ℕ) (stood : was ≡ get_or blocks at []) (lt : at < length blocks) where
-  pub failed_torn : (noted : Bool) → (noted ≡ true → steps' ≡ steps ++ Write at was ∷ []) → (noted ≡ false → steps' ≡ steps) → TearsAt at (IsLeft steps blocks) (IsLeft steps' blocks)
-  failed_torn true pushed same = torn_failed steps steps' blocks at was (pushed refl) stood lt
-  failed_torn false pushed same = torn_none steps steps' blocks at (same refl)
+  pub failed_torn : AreBlocks blocks → (noted : Bool) → (noted ≡ true → steps' ≡ steps ++ Write at was ∷ []) → (noted ≡ false → steps' ≡ steps) → TearsAt at (IsLeft steps blocks) (IsLeft steps' blocks)
+  failed_torn consists true pushed same = torn_failed steps steps' blocks at was (pushed refl) stood lt consists
+  failed_torn consists false pushed same = torn_none steps steps' blocks at (same refl)
 
   pub failed_marks : (noted : Bool) → (noted ≡ true → steps' ≡ steps ++ Write at was ∷ []) → (noted ≡ false → steps' ≡ steps) → KeepsCleanBut at (λ k. is_written steps k false) (λ k. is_written steps' k false)
   failed_marks true pushed same = marks_write steps steps' at was (pushed refl)

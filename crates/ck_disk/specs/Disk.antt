@@ -1,9 +1,21 @@
 -- What a disk of blocks means at a moment, and what its calls do to that.
-use Rattle.std.specs.Prelude.{◌≡◌, ◌≢◌, ◌⊎◌, ◌<◌, ◌≤◌, ◌+◌, ◌-◌, ◌^◌, ℕ, min, Bool, false, IsTrue, List, [], length, get_or, set}
+use Rattle.std.specs.Prelude.{◌≡◌, ◌≢◌, ◌⊎◌, ◌<◌, ◌≤◌, ◌+◌, ◌-◌, ◌^◌, ℕ, min, Bool, false, IsTrue, All, List, [], length, get_or, set}
 
 -- blocks, each a list of bytes
 abbrev pub Image : Type 0
 Image = List (List ℕ)
+
+-- how many bytes a block has
+abbrev pub block_len : ℕ
+block_len = 4096
+
+-- as many as a block has
+abbrev pub IsBlock : List ℕ → Type 0
+IsBlock bytes = length bytes ≡ block_len
+
+-- each block of the image has 4,096 bytes
+abbrev pub AreBlocks : Image → Type 0
+AreBlocks image = All IsBlock image
 
 -- What a disk is at a moment. A disk that tells nothing of its content has any values at `shows` and at its images.
 pub record Meaning : Type 1 where
@@ -44,12 +56,14 @@ pub record Lawful (m : Meaning) : Type 0 where
   pub counts_now : (t : ℕ) (c : Image) → t ≤ m.moment → m.may_leave c → m.left_since t c
   -- since this moment there is no other
   pub only_now : (c : Image) → m.left_since m.moment c → m.may_leave c
+  -- what a crash at any moment might have left, or may leave now, consists of blocks
+  pub blocks : (t : ℕ) (c : Image) → m.left_since t c → AreBlocks c
   -- what reads give is an image that a crash may leave
   pub shown : IsTrue m.tells → m.may_leave m.shows
   -- an image that a crash may leave agrees with what reads give on every block that wasn't written since the last sync
   pub clean : IsTrue m.tells → (c : Image) → m.may_leave c → Agrees (IsClean m) m.shows c
-  -- and every block that was written since then may hold anything
-  pub torn : IsTrue m.tells → (c : Image) → Agrees (IsClean m) m.shows c → m.may_leave c
+  -- and every block that was written since then may hold any bytes
+  pub torn : IsTrue m.tells → (c : Image) → AreBlocks c → Agrees (IsClean m) m.shows c → m.may_leave c
   -- what reads give has all blocks
   pub whole : IsTrue m.tells → length m.shows ≡ m.size
   pub fits : m.size < 2 ^ 32

@@ -1,6 +1,6 @@
 -- Blocks whose writes failed, and what a crash leaves in them.
 use Rattle.std.specs.Prelude.{◌≡◌, ◌⊎◌, ◌||◌, ◌+◌, ℕ, Bool, nat_eq, List, [], ◌∷◌, set}
-use Rattle.ck_disk.specs.Disk.{Image, Meaning}
+use Rattle.ck_disk.specs.Disk.{Image, Meaning, IsBlock}
 use Rattle.ck_disk.specs.declared.lost.Lost.{Lost, Nothing, More'}
 
 -- their numbers
@@ -8,10 +8,10 @@ abbrev pub places_of : Lost → List ℕ
 places_of Nothing = []
 places_of (More' shape before at) = at.value ∷ places_of before
 
--- one of those images, but that these blocks may hold anything
+-- one of those images, but that these blocks may hold any bytes
 abbrev pub LeftBut : List ℕ → (Image → Type 0) → Image → Type 0
 LeftBut [] all c = all c
-LeftBut (at ∷ places) all c = (d : Image) × (b : List ℕ) × LeftBut places all d × (c ≡ set d at b)
+LeftBut (at ∷ places) all c = (d : Image) × (b : List ℕ) × IsBlock b × LeftBut places all d × (c ≡ set d at b)
 
 -- block k is one of these, or was written before
 abbrev pub is_written_with : List ℕ → (ℕ → Bool) → ℕ → Bool

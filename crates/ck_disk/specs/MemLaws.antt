@@ -1,7 +1,7 @@
 -- The laws of a disk, of one in memory.
 use Rattle.std.proofs.Common.{◌≤◌, ◌<◌, ◌^◌, ℕ, List, length, take, drop, refl, sym, ap, subst, arith}
 use Rattle.std.proofs.lemmas.List.{take_all, drop_all}
-use Rattle.ck_disk.specs.Disk.{Image, Lawful}
+use Rattle.ck_disk.specs.Disk.{Image, AreBlocks, Lawful}
 use Rattle.ck_disk.specs.declared.mem_disk.MemStep.{MemStep}
 use Rattle.ck_disk.specs.MemRecord.{undone, IsLeft, mem_means}
 
@@ -13,13 +13,14 @@ pub end_is_left : (steps : List MemStep) (blocks : Image) (k : ℕ) (c : Image) 
 end_is_left steps blocks k c le left =
     subst (λ (s : List MemStep). IsLeft s (undone (drop k steps) blocks) c) (sym (take_all k steps le)) (subst (λ (b : Image). IsLeft steps b c) (sym (ap (λ (s : List MemStep). undone s blocks) (drop_all k steps le))) left)
 
-pub mem_lawful : (steps : List MemStep) (blocks : Image) (reads writes : ℕ) → length blocks < 2 ^ 32 → Lawful (mem_means steps blocks reads writes)
-mem_lawful steps blocks reads writes fits = record {
+pub mem_lawful : (steps : List MemStep) (blocks : Image) (reads writes : ℕ) → length blocks < 2 ^ 32 → AreBlocks blocks → Lawful (mem_means steps blocks reads writes)
+mem_lawful steps blocks reads writes fits consists = record {
   counts_now = λ t c le left. (length steps, record { since = le; till = omega arith; image = end_is_left steps blocks (length steps) c (omega arith) left });
   only_now = λ c from. left_at_end steps blocks from.0 c from.1.since from.1.image;
-  shown = λ told. record { size = refl; same = λ k clean. refl };
+  blocks = λ t c from. from.1.image.consists;
+  shown = λ told. record { size = refl; consists = consists; same = λ k clean. refl };
   clean = λ told c left. record { size = left.size; at = left.same };
-  torn = λ told c same. record { size = same.size; same = same.at };
+  torn = λ told c blocks same. record { size = same.size; consists = blocks; same = same.at };
   whole = λ told. refl;
   fits = fits;
 }

@@ -1,6 +1,6 @@
 -- A disk in memory: its blocks, and a record of its writes and syncs from which each earlier moment is made again.
 use Rattle.std.specs.Prelude.{◌≡◌, ◌≤◌, ◌||◌, ℕ, Bool, true, false, nat_eq, List, [], ◌∷◌, length, get_or, set, take, drop}
-use Rattle.ck_disk.specs.Disk.{Image, Meaning}
+use Rattle.ck_disk.specs.Disk.{Image, Meaning, AreBlocks}
 use Rattle.ck_disk.specs.declared.mem_disk.MemStep.{MemStep}
 use Rattle.ck_disk.specs.declared.mem_disk.MemStep.TheVariants.{Write, Sync}
 
@@ -16,9 +16,10 @@ is_written [] k so_far = so_far
 is_written (Write at was ∷ steps) k so_far = is_written steps k (nat_eq at k || so_far)
 is_written (Sync ∷ steps) k so_far = is_written steps k false
 
--- these blocks, but for those written since the last sync
+-- these blocks, but that those written since the last sync may hold any bytes
 pub record IsLeft (steps : List MemStep) (blocks c : Image) : Type 0 where
   pub size : length c ≡ length blocks
+  pub consists : AreBlocks c
   pub same : (k : ℕ) → is_written steps k false ≡ false → get_or c k [] ≡ get_or blocks k []
 
 -- a crash at the moment k might have left it

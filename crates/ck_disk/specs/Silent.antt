@@ -21,6 +21,7 @@ pub silent_lawful : (size reads writes : ℕ) → size < 2 ^ 32 → Lawful (sile
 silent_lawful size reads writes fits = record {
   counts_now = λ t c le left. left;
   only_now = λ c left. left;
+  blocks = λ t c left. absurd left;
   shown = λ told. absurd (false≢true told);
   clean = λ told c left. absurd left;
   torn = λ told. absurd (false≢true told);

@@ -1,6 +1,6 @@
 // A disk in memory. It keeps a record of its writes and syncs, from which each earlier moment follows.
 ghost use Rattle.std.specs.Prelude.{◌≡◌, ◌<◌, ◌≤◌, ◌+◌, ◌-◌, ◌^◌, ◌++◌, ◌↔◌, ℕ, List, min, [], ◌∷◌, length, get_or, set, true, false, IsTrue, IsErr, OnOk, OnErr, Contains, if◌then◌else◌};
-ghost use Rattle.ck_disk.specs.Disk.{Step, Within, TearsAt, Only, IsSynced, Rose, KeepsClean, KeepsCleanBut};
+ghost use Rattle.ck_disk.specs.Disk.{Step, Within, TearsAt, Only, IsSynced, Rose, KeepsClean, KeepsCleanBut, AreBlocks};
 ghost use Rattle.ck_disk.specs.MemRecord.{is_written};
 ghost use Rattle.ck_disk.specs.MemLaws.{mem_lawful};
 
@@ -32,6 +32,7 @@ pub struct MemDisk {
     write_faults: u64,
     steps: Vec<MemStep>,
     ghost fits: { length blocks.items < 2 ^ 32 },
+    ghost consists: { AreBlocks blocks.items },
 }
 
 impl MemDisk {
@@ -57,6 +58,7 @@ impl MemDisk {
         ensures fails { IfOk result (λ disk. fails_of disk ≡ fails.items) }
         ensures no_calls { IfOk result (λ disk. calls_of disk ≡ 0) }
     {
+        are_blocks(&image);
         Ok(MemDisk {
             blocks: image,
             fails,
@@ -96,6 +98,7 @@ impl MemDisk {
         }
         fails.clear();
         steps.clear();
+        are_blocks(&blocks);
         MemDisk {
             blocks,
             fails,
@@ -106,6 +109,11 @@ impl MemDisk {
         }
     }
 }
+
+/// Does nothing: it is the type that says how long each block is.
+fn are_blocks(image: &[Block])
+    ensures { AreBlocks image.now }
+{}
 
 /// Replaces a block, if it was written since the last sync.
 fn tear(blocks: &mut [Block], steps: &[MemStep], one: &Torn)
@@ -154,7 +162,7 @@ impl Disk for MemDisk {
 
     ghost means = { meaning };
 
-    ghost lawful = { λ m. mem_lawful m.steps.items m.blocks.items m.read_faults m.write_faults m.fits };
+    ghost lawful = { λ m. mem_lawful m.steps.items m.blocks.items m.read_faults m.write_faults m.fits m.consists };
 
     fn blocks(&self) -> u32 {
         self.blocks.len() as u32

@@ -4,6 +4,7 @@ use Rattle.std.specs.Ordering.{eq_by_cmp}
 use Rattle.std.specs.List.{AllByRecursion}
 use Rattle.std.specs.Option.{option_or}
 use Rattle.std.specs.FinMap.{find}
+use Rattle.std.proofs.lemmas.List.FromFn.{length-map-range_with_len}
 use Rattle.std.specs.FinMap as map
 use Rattle.ck_model.specs.declared.key.Key.{Key}
 use Rattle.ck_model.specs.declared.key.Key.TheVariants.{Name, Node, Block}
@@ -16,12 +17,13 @@ use Rattle.ck_model.specs.Key.{key_cmp, key_cmp_total, is_of, is_past}
 use Rattle.ck_model.specs.Cells.{Cells, size_at, with_cells}
 use Rattle.ck_model.specs.Rules.{KeyBelow}
 use Rattle.ck_model.specs.Walk.{file_at, directory_at, name_at, new_name_at}
-use Rattle.ck_model.specs.Changes.{cell_of, with_node, without_file, without_directory, renamed, touched, block_after, grown_to, written, cut_block, cut_at, cut_to, resized}
+use Rattle.ck_model.specs.Changes.{cell_of, with_node, without_file, without_directory, renamed, touched, byte_after, block_after, grown_to, written, cut_block, cut_at, cut_to, resized}
 use Rattle.ck_model.specs.World.{World}
 use Rattle.ck_model.specs.FileCalls.{is_spent, has_names, made, removed, removed_directory, moved, overwritten, truncated}
+use Rattle.ck_model.specs.Contents.{block_byte}
 use Rattle.ck_model.specs.Limits.{file_limit}
 use Rattle.ck_laws.specs.Tree.{HasNode}
-use Rattle.ck_laws.specs.Laws.{ContentBelow, NumbersBelow}
+use Rattle.ck_laws.specs.Laws.{ContentBelow, NumbersBelow, IsWhole}
 use Rattle.ck_model.proofs.CellLaws.{tied-is, get-with_cells, get-retain_keys}
 use Rattle.ck_laws.proofs.Walks.{file_parts, directory_parts, new_name_parts}
 use Rattle.ck_laws.proofs.Primaries.{Leaves, LeavesPrimary, then-given, unless}
@@ -69,10 +71,19 @@ mapped-each P f each (x ∷ xs) = (each x, mapped-each P f each xs)
 
 -- ---- the cells that a change puts
 
+block_after-whole : (cells : Cells) (node at : ℕ) (bytes : List ℕ) (index : ℕ) → length (block_after cells node at bytes index) ≡ 4096
+unfolding block_after
+block_after-whole cells node at bytes index = length-map-range_with_len (byte_after cells node at bytes index) 0 4096
+
+cut_block-whole : (cells : Cells) (node index kept : ℕ) → length (cut_block cells node index kept) ≡ 4096
+unfolding cut_block
+cut_block-whole cells node index kept = length-map-range_with_len (λ place. if nat_lt place kept then block_byte cells node index place else 0) 0 4096
+
 pub record IsNew (limit given : ℕ) (key : Key) (cell : Cell) : Type 0 where
   pub stamp : cell.stamp ≡ given
   pub keyed : KeyBelow limit key
   pub content : ContentBelow limit cell.payload
+  pub whole : IsWhole cell.payload
 
 pub data IsOldOrNew (before : Cells) (limit stamp : ℕ) (key : Key) (cell : Cell) : Type 0 where
   old : map.get before key ≡ Some cell → IsOldOrNew before limit stamp key cell
@@ -89,13 +100,13 @@ module _ (cells : Cells) (limit stamp node : ℕ) (below : node < limit) where
   same : Each P cells
   same key cell h = old h
 
-  puts : (key : Key) (payload : Payload) → KeyBelow limit key → ContentBelow limit (Some payload) → P key (cell_of stamp payload)
-  puts key payload k c = new (record { stamp = refl; keyed = k; content = c })
+  puts : (key : Key) (payload : Payload) → KeyBelow limit key → ContentBelow limit (Some payload) → IsWhole (Some payload) → P key (cell_of stamp payload)
+  puts key payload k c whole = new (record { stamp = refl; keyed = k; content = c; whole = whole })
 
-  with_node-edit : (d : ℕ) (n : List ℕ) (payload : Payload) → d < limit → ContentBelow limit (Some payload) → IsEdit cells limit stamp (with_node cells stamp (Name d n) node payload)
-  with_node-edit d n payload directory content =
+  with_node-edit : (d : ℕ) (n : List ℕ) (payload : Payload) → d < limit → ContentBelow limit (Some payload) → IsWhole (Some payload) → IsEdit cells limit stamp (with_node cells stamp (Name d n) node payload)
+  with_node-edit d n payload directory content whole =
       put-each P cells ((Name d n, cell_of stamp (To node)) ∷ (Node node, cell_of stamp payload) ∷ []) same
-      (puts (Name d n) (To node) directory below, (puts (Node node) payload below content, tt))
+      (puts (Name d n) (To node) directory below tt, (puts (Node node) payload below content whole, tt))
 
   without_file-edit : (name : Key) → IsEdit cells limit stamp (without_file cells name node)
   without_file-edit name = remove-each P (map.retain_keys cells (λ key. not (is_of node key))) name (retain-each P cells (λ key. not (is_of node key)) same)
@@ -105,12 +116,12 @@ module _ (cells : Cells) (limit stamp node : ℕ) (below : node < limit) where
 
   renamed-edit : (from : Key) (d : ℕ) (n : List ℕ) → d < limit → IsEdit cells limit stamp (renamed cells stamp from (Name d n) node)
   renamed-edit from d n directory =
-      put-each P (map.remove cells from) ((Name d n, cell_of stamp (To node)) ∷ []) (remove-each P cells from same) (puts (Name d n) (To node) directory below, tt)
+      put-each P (map.remove cells from) ((Name d n, cell_of stamp (To node)) ∷ []) (remove-each P cells from same) (puts (Name d n) (To node) directory below tt, tt)
 
   grown-listed : (end : ℕ) → Listed P (grown_to cells stamp node end)
   grown-listed end =
       elim (nat_lt (size_at cells node) end) as (λ b. Listed P (if b then (Node node, cell_of stamp (File end)) ∷ [] else [])) [
-        | true ↦ (puts (Node node) (File end) below tt, tt)
+        | true ↦ (puts (Node node) (File end) below tt tt, tt)
         | false ↦ tt
       ]
 
@@ -121,12 +132,12 @@ module _ (cells : Cells) (limit stamp node : ℕ) (below : node < limit) where
       put-each P (with_cells cells (grown_to cells stamp node (at + length all)))
       (list_map (λ index. (Block node index, cell_of stamp (Bytes (block_after cells node at all index)))) (touched at (length all)))
       (put-each P cells (grown_to cells stamp node (at + length all)) same (grown-listed (at + length all)))
-      (mapped-each P (λ index. (Block node index, cell_of stamp (Bytes (block_after cells node at all index)))) (λ index. puts (Block node index) (Bytes (block_after cells node at all index)) below tt) (touched at (length all)))
+      (mapped-each P (λ index. (Block node index, cell_of stamp (Bytes (block_after cells node at all index)))) (λ index. puts (Block node index) (Bytes (block_after cells node at all index)) below tt (block_after-whole cells node at all index)) (touched at (length all)))
 
   cut-listed : (size : ℕ) → Listed P (cut_at cells stamp node size)
   cut-listed size =
       elim (not (nat_eq (size % 4096) 0) && map.contains_key cells (Block node (size / 4096))) as (λ b. Listed P (if b then (Block node (size / 4096), cell_of stamp (Bytes (cut_block cells node (size / 4096) (size % 4096)))) ∷ [] else [])) [
-        | true ↦ (puts (Block node (size / 4096)) (Bytes (cut_block cells node (size / 4096) (size % 4096))) below tt, tt)
+        | true ↦ (puts (Block node (size / 4096)) (Bytes (cut_block cells node (size / 4096) (size % 4096))) below tt (cut_block-whole cells node (size / 4096) (size % 4096)), tt)
         | false ↦ tt
       ]
 
@@ -136,7 +147,7 @@ module _ (cells : Cells) (limit stamp node : ℕ) (below : node < limit) where
       (retain-each P cells (λ key. not (is_past node size key)) same) (cut-listed size)
 
   sized-edit : (base : Cells) (size : ℕ) → IsEdit cells limit stamp base → IsEdit cells limit stamp (with_cells base ((Node node, cell_of stamp (File size)) ∷ []))
-  sized-edit base size h = put-each P base ((Node node, cell_of stamp (File size)) ∷ []) h (puts (Node node) (File size) below tt, tt)
+  sized-edit base size h = put-each P base ((Node node, cell_of stamp (File size)) ∷ []) h (puts (Node node) (File size) below tt tt, tt)
 
   resized-edit : (size : ℕ) → IsEdit cells limit stamp (resized cells stamp node size)
   resized-edit size =
@@ -164,15 +175,15 @@ node_below next cells numbers node stands =
     ] refl stands
 
 module _ (w : World) (numbers : NumbersBelow w.next.number w.primary) where
-  pub made-edited : (path : List (List ℕ)) (payload : Payload) → ContentBelow (w.next.number + 1) (Some payload) → LeavesPrimary (IsEdited w) (made w path payload)
-  made-edited path payload content =
+  pub made-edited : (path : List (List ℕ)) (payload : Payload) → ContentBelow (w.next.number + 1) (Some payload) → IsWhole (Some payload) → LeavesPrimary (IsEdited w) (made w path payload)
+  made-edited path payload content whole =
       then-given (Leaves (IsEdited w)) (new_name_at w.primary path) _ (λ key is.
       unless (Leaves (IsEdited w)) (is_spent w || nat_eq w.next.number 4294967295) Spent _ (λ _.
       let last = (new_name_parts w.primary path key is).last in
       let low = node_below w.next.number w.primary numbers last.directory last.before.leads.stands in
       record {
         edit = subst (λ k. IsEdit w.primary (w.next.number + 1) w.next.stamp (with_node w.primary w.next.stamp k w.next.number payload)) (sym last.is)
-            (with_node-edit w.primary (w.next.number + 1) w.next.stamp w.next.number (omega arith) last.directory last.name payload (omega (arith, low)) content);
+            (with_node-edit w.primary (w.next.number + 1) w.next.stamp w.next.number (omega arith) last.directory last.name payload (omega (arith, low)) content whole);
         stamp = refl;
         number = omega arith;
       }))

@@ -67,8 +67,8 @@ module _ (w : World) (world : IsWorld w) (m : Cells) (past : IsPast m w) where
   stays_past = record {
     stays = record { agrees = past.primary; below = past.stamps };
     counted = record { agrees = past.primary; below = past.stamps };
-    make = λ path. left-past _ (made-edited w world.numbers path (File 0) tt);
-    mkdir = λ path. left-past _ (made-edited w world.numbers path Dir tt);
+    make = λ path. left-past _ (made-edited w world.numbers path (File 0) tt tt);
+    mkdir = λ path. left-past _ (made-edited w world.numbers path Dir tt tt);
     rm = λ path. left-past _ (removed-edited w world.numbers path);
     rmdir = λ path. left-past _ (removed_directory-edited w world.numbers path);
     mv = λ path new_path. left-past _ (moved-edited w world.numbers path new_path);

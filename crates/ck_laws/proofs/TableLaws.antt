@@ -20,15 +20,15 @@ use Rattle.ck_model.specs.declared.held.Small.TheVariants.{To, File, Dir}
 use Rattle.ck_model.specs.Cells.{Cells, differs, marked, OfOneHistory}
 use Rattle.ck_model.specs.Table.{Table, column, newer}
 use Rattle.ck_model.specs.Chain.{first_entry, present, value_at}
-use Rattle.ck_model.specs.Rules.{IsOrderly, HeldBelow, stamp_in}
+use Rattle.ck_model.specs.Rules.{IsOrderly, HeldBelow, stamp_in, block_in}
 use Rattle.ck_model.specs.Values.{Store, cell_on, cells_on}
 use Rattle.ck_model.specs.World.{Checkpoint, shown_by}
 use Rattle.ck_model.specs.TableWorld.{values_of, checkpoint_on, live_filesets}
-use Rattle.ck_laws.specs.Laws.{IdsRise, StampsBelow, ContentBelow, NumbersBelow, Agree, EachTwo, TablesStand}
+use Rattle.ck_laws.specs.Laws.{IdsRise, StampsBelow, ContentBelow, NumbersBelow, IsWhole, HasBlocks, StoresBlocks, Agree, EachTwo, TablesStand}
 use Rattle.ck_model.proofs.ValueLaws.{get-values_of, get-cells_on}
 use Rattle.ck_model.proofs.FilesetLaws.{all_found}
 use Rattle.ck_laws.proofs.WorldLemmas.{shown_again}
-use Rattle.ck_laws.proofs.WorldLaws.{OfOneHistory-marked, StampsBelow-shown, NumbersBelow-shown}
+use Rattle.ck_laws.proofs.WorldLaws.{OfOneHistory-marked, StampsBelow-shown, NumbersBelow-shown, HasBlocks-shown}
 
 -- ---- what stands behind a cell
 
@@ -92,6 +92,14 @@ content_below store limit (Plain stamp Dir) h = tt
 content_below store limit (Extent stamp block) h = tt
 content_below store limit (Mark stamp) h = tt
 
+whole_on : (store : Store) (blocks : ℕ) → StoresBlocks blocks store → (held : Held) → IfSome (block_in held) (λ block. block < blocks) → IsWhole (cell_on store held).payload
+whole_on store blocks stores Absent h = tt
+whole_on store blocks stores (Plain stamp (To node)) h = tt
+whole_on store blocks stores (Plain stamp (File size)) h = tt
+whole_on store blocks stores (Plain stamp Dir) h = tt
+whole_on store blocks stores (Extent stamp block) h = stores block h
+whole_on store blocks stores (Mark stamp) h = tt
+
 module _ (store : Store) (t : Table) (rules : IsOrderly t) where
   map_stamps : (fs : ℕ) → StampsBelow t.counters.stamp (map_of store t fs)
   map_stamps fs key cell is =
@@ -103,6 +111,11 @@ module _ (store : Store) (t : Table) (rules : IsOrderly t) where
       let e = held_at store t fs key cell is in
       let low = rules.numbers e.fileset key e.held e.there in
       (low.0, subst (λ c. ContentBelow t.counters.number c.payload) (sym e.is) (content_below store t.counters.number e.held low.1))
+
+  map_payloads : StoresBlocks t.blocks store → (fs : ℕ) → HasBlocks (map_of store t fs)
+  map_payloads stores fs key cell is =
+      let e = held_at store t fs key cell is in
+      subst (λ c. IsWhole c.payload) (sym e.is) (whole_on store t.blocks stores e.held (rules.blocks e.fileset key e.held e.there))
 
   one_held : (key : Key) (x y : Cell) → IsHeld store t key x → IsHeld store t key y → x.stamp ≡ y.stamp → x ≡ y
   one_held key x y e f same =
@@ -207,7 +220,7 @@ module _ (store : Store) (t : Table) (rules : IsOrderly t) where
 -- ---- the world
 
 pub tables_stand_lem : TablesStand
-tables_stand_lem store mounts t table rules = record {
+tables_stand_lem store mounts t table rules stores = record {
   order = record {
     ids = ids_rise store t rules es 1 table.counters.some_id rising there;
     marks = each_made (λ c. shown_by c.kind c.cells ≡ c.cells) (made_on store t rules) (λ e. shown_again e.1.kind (map_of store t e.0)) (live_filesets t);
@@ -217,6 +230,8 @@ tables_stand_lem store mounts t table rules = record {
   frozen_stamps = each_made (λ c. StampsBelow t.counters.stamp c.cells) (made_on store t rules) (λ e. StampsBelow-shown t.counters.stamp e.1.kind (map_of store t e.0) (map_stamps store t rules e.0)) (live_filesets t);
   numbers = map_numbers store t rules 0;
   frozen_numbers = each_made (λ c. NumbersBelow t.counters.number c.cells) (made_on store t rules) (λ e. NumbersBelow-shown t.counters.number e.1.kind (map_of store t e.0) (map_numbers store t rules e.0)) (live_filesets t);
+  payloads = map_payloads store t rules stores 0;
+  frozen_payloads = each_made (λ c. HasBlocks c.cells) (made_on store t rules) (λ e. HasBlocks-shown e.1.kind (map_of store t e.0) (map_payloads store t rules stores e.0)) (live_filesets t);
   versions = each_made (Agree Keeping (map_of store t 0)) (made_on store t rules) (λ e. shown_agree store t rules (map_of store t 0) (map_of store t e.0) Keeping e.1.kind (maps_agree store t rules 0 e.0)) (live_filesets t);
   frozen_versions = each_two_made (λ older newer. Agree older.kind older.cells newer) (made_on store t rules) (λ e x. shown_agree store t rules (map_of store t e.0) (map_of store t x.0) e.1.kind x.1.kind (maps_agree store t rules e.0 x.0)) (live_filesets t);
 }

@@ -22,7 +22,7 @@ use Rattle.ck_model.specs.Streams.{Texts}
 use Rattle.ck_model.specs.CheckpointCalls.{checkpoint_named, restored}
 use Rattle.ck_model.specs.Step.{step}
 use Rattle.ck_model.specs.History.{Past, CallsBy, begun, created_id, past_after, past_of, IsLegalNext, IsLegalFrom}
-use Rattle.ck_laws.specs.Laws.{StampsBelow, ContentBelow, NumbersBelow, Agree, EachTwo, IsWorld, WorldsBegin, CallsKeepWorlds, WorldsStay}
+use Rattle.ck_laws.specs.Laws.{StampsBelow, ContentBelow, NumbersBelow, Agree, EachTwo, IsWhole, HasBlocks, IsWorld, WorldsBegin, CallsKeepWorlds, WorldsStay}
 use Rattle.ck_model.proofs.CellLaws.{get-marked, stamp-mark_of}
 use Rattle.ck_laws.proofs.Lookups.{cases_key, get-insert_same, get-insert_other}
 use Rattle.ck_laws.proofs.WorldLemmas.{IsLater, Remain, none, keep, leave, All-remain, All-append, shown_again, marked-shown_by}
@@ -181,7 +181,7 @@ agree-later : (c d x y : Checkpoint) → IsLater c x → IsLater d y → IsShown
 agree-later c d x y later also shown other h =
     agree-second x.kind x.cells d y (becomes d y also other) (agree-first c d x (becomes c x later shown) h)
 
--- ---- marks keep stamps and numbers
+-- ---- marks keep stamps, numbers and whole blocks
 
 pub StampsBelow-shown : (next : ℕ) (kind : Kind) (cells : Cells) → StampsBelow next cells → StampsBelow next (shown_by kind cells)
 StampsBelow-shown next kind cells h key cell is = on (map.get cells key) refl (sym (get-shown kind cells key) ∙ is)
@@ -212,6 +212,24 @@ NumbersBelow-shown next kind cells h key cell is = on (map.get cells key) refl (
         let low = h key x there in
         (low.0, subst (λ c. ContentBelow next c.payload) alike (content-shown next kind key x low.1))
 
+whole-marked : (key : Key) (x : Cell) → IsWhole x.payload → IsWhole (mark_of key x).payload
+whole-marked (Name d n) x h = h
+whole-marked (Node m) x h = h
+whole-marked (Block m i) x h = tt
+
+whole-shown : (kind : Kind) (key : Key) (x : Cell) → IsWhole x.payload → IsWhole (shown_cell kind key x).payload
+whole-shown Keeping key x h = h
+whole-shown Nodata key x h = whole-marked key x h
+
+pub HasBlocks-shown : (kind : Kind) (cells : Cells) → HasBlocks cells → HasBlocks (shown_by kind cells)
+HasBlocks-shown kind cells h key cell is = on (map.get cells key) refl (sym (get-shown kind cells key) ∙ is)
+  where
+    on : (o : Option Cell) → map.get cells key ≡ o → option_map (shown_cell kind key) o ≡ Some cell → IsWhole cell.payload
+    on None _ clash = cc
+    on (Some x) there same =
+        let alike : shown_cell kind key x ≡ cell = cc in
+        subst (λ c. IsWhole c.payload) alike (whole-shown kind key x (h key x there))
+
 pub StampsBelow-more : (next more : ℕ) (cells : Cells) → next ≤ more → StampsBelow next cells → StampsBelow more cells
 StampsBelow-more next more cells le h key cell is = let low = h key cell is in omega (arith, low, le)
 
@@ -238,6 +256,7 @@ record Follows (w : World) (cells : Cells) (next : Counters) : Type 0 where
   number : w.next.number ≤ next.number
   stamps : StampsBelow next.stamp cells
   numbers : NumbersBelow next.number cells
+  payloads : HasBlocks cells
   versions : AllByRecursion (Agree Keeping cells) w.checkpoints
 
 edited-follows : (w : World) → IsWorld w → (cells : Cells) (next : Counters) → IsEdited w cells next → Follows w cells next
@@ -246,6 +265,7 @@ edited-follows w world cells next h = record {
   number = h.number;
   stamps = stamps;
   numbers = numbers;
+  payloads = payloads;
   versions = each_of (λ c. StampsBelow w.next.stamp c.cells × Agree Keeping w.primary c) (Agree Keeping cells)
       (λ c both. agree-edit c.kind w.primary cells c.cells next.number w.next.stamp h.edit both.0 both.1)
       w.checkpoints (both (λ c. StampsBelow w.next.stamp c.cells) (Agree Keeping w.primary) w.checkpoints world.frozen_stamps world.versions);
@@ -264,6 +284,13 @@ edited-follows w world cells next h = record {
         on : IsOldOrNew w.primary next.number w.next.stamp key cell → KeyBelow next.number key × ContentBelow next.number cell.payload
         on (old was) = let low = world.numbers key cell was in (key_more w.next.number next.number key h.number low.0, content_more w.next.number next.number cell.payload h.number low.1)
         on (new n) = (n.keyed, n.content)
+
+    payloads : HasBlocks cells
+    payloads key cell is = on (h.edit key cell is)
+      where
+        on : IsOldOrNew w.primary next.number w.next.stamp key cell → IsWhole cell.payload
+        on (old was) = world.payloads key cell was
+        on (new n) = n.whole
 
 left-follows : (w : World) → IsWorld w → (r : Result World Reply) → LeavesPrimary (IsEdited w) r → LeavesPrimary (Follows w) r
 left-follows w world (Ok next) h = edited-follows w world next.primary next.next h
@@ -297,15 +324,16 @@ restored-follows w world name =
       number = omega arith;
       stamps = found_of (λ d. StampsBelow w.next.stamp d.cells) (is_named name) w.checkpoints NoCkpt c world.frozen_stamps is;
       numbers = found_of (λ d. NumbersBelow w.next.number d.cells) (is_named name) w.checkpoints NoCkpt c world.frozen_numbers is;
+      payloads = found_of (λ d. HasBlocks d.cells) (is_named name) w.checkpoints NoCkpt c world.frozen_payloads is;
       versions = agree-among (is_named name) w.checkpoints NoCkpt c (keeping_of c.kind data') world.frozen_versions is;
     }))
 
 follows : (w : World) → IsWorld w → Primaries w (Follows w)
 follows w world = record {
-  stays = record { stamp = omega arith; number = omega arith; stamps = world.stamps; numbers = world.numbers; versions = world.versions };
-  counted = record { stamp = omega arith; number = omega arith; stamps = world.stamps; numbers = world.numbers; versions = world.versions };
-  make = λ path. left-follows w world _ (made-edited w world.numbers path (File 0) tt);
-  mkdir = λ path. left-follows w world _ (made-edited w world.numbers path Dir tt);
+  stays = record { stamp = omega arith; number = omega arith; stamps = world.stamps; numbers = world.numbers; payloads = world.payloads; versions = world.versions };
+  counted = record { stamp = omega arith; number = omega arith; stamps = world.stamps; numbers = world.numbers; payloads = world.payloads; versions = world.versions };
+  make = λ path. left-follows w world _ (made-edited w world.numbers path (File 0) tt tt);
+  mkdir = λ path. left-follows w world _ (made-edited w world.numbers path Dir tt tt);
   rm = λ path. left-follows w world _ (removed-edited w world.numbers path);
   rmdir = λ path. left-follows w world _ (removed_directory-edited w world.numbers path);
   mv = λ path new_path. left-follows w world _ (moved-edited w world.numbers path new_path);
@@ -336,6 +364,9 @@ module _ (w next : World) (world : IsWorld w) (h : Follows w next.primary next.n
       subst (NumbersBelow next.next.number) (later.shows c.cells both.0)
       (NumbersBelow-more w.next.number next.next.number (shown_by d.kind c.cells) h.number (NumbersBelow-shown w.next.number d.kind c.cells both.1))
 
+  whole_later : (c d : Checkpoint) → IsLater c d → IsShown c × HasBlocks c.cells → HasBlocks d.cells
+  whole_later c d later both = subst HasBlocks (later.shows c.cells both.0) (HasBlocks-shown d.kind c.cells both.1)
+
   agrees_later : (c d : Checkpoint) → IsLater c d → IsShown c × Agree Keeping next.primary c → Agree Keeping next.primary d
   agrees_later c d later both = agree-second Keeping next.primary c d (becomes c d later both.0) both.1
 
@@ -348,6 +379,9 @@ module _ (w next : World) (world : IsWorld w) (h : Follows w next.primary next.n
 
     numbers_remain : AllByRecursion IsNumbered ds
     numbers_remain = All-remain (λ c. IsShown c × NumbersBelow w.next.number c.cells) IsNumbered numbered_later remain (both IsShown (λ c. NumbersBelow w.next.number c.cells) w.checkpoints world.order.marks world.frozen_numbers)
+
+    payloads_remain : AllByRecursion (λ c. HasBlocks c.cells) ds
+    payloads_remain = All-remain (λ c. IsShown c × HasBlocks c.cells) (λ c. HasBlocks c.cells) whole_later remain (both IsShown (λ c. HasBlocks c.cells) w.checkpoints world.order.marks world.frozen_payloads)
 
     versions_remain : AllByRecursion (Agree Keeping next.primary) ds
     versions_remain = All-remain (λ c. IsShown c × Agree Keeping next.primary c) (Agree Keeping next.primary) agrees_later remain (both IsShown (Agree Keeping next.primary) w.checkpoints world.order.marks h.versions)
@@ -379,6 +413,8 @@ module _ (w next : World) (world : IsWorld w) (h : Follows w next.primary next.n
     frozen_stamps = stamps_remain adds.remain;
     numbers = h.numbers;
     frozen_numbers = numbers_remain adds.remain;
+    payloads = h.payloads;
+    frozen_payloads = payloads_remain adds.remain;
     versions = versions_remain adds.remain;
     frozen_versions = frozen_versions_remain adds.remain;
   }
@@ -397,6 +433,9 @@ module _ (w next : World) (world : IsWorld w) (h : Follows w next.primary next.n
         numbers = h.numbers;
         frozen_numbers = subst (AllByRecursion IsNumbered) (sym one.checkpoints)
             (All-append IsNumbered one.left x (numbers_remain one.remain) (subst (NumbersBelow next.next.number) shows (NumbersBelow-shown next.next.number x.kind next.primary h.numbers)));
+        payloads = h.payloads;
+        frozen_payloads = subst (AllByRecursion (λ c. HasBlocks c.cells)) (sym one.checkpoints)
+            (All-append (λ c. HasBlocks c.cells) one.left x (payloads_remain one.remain) (subst HasBlocks shows (HasBlocks-shown x.kind next.primary h.payloads)));
         versions = subst (AllByRecursion (Agree Keeping next.primary)) (sym one.checkpoints)
             (All-append (Agree Keeping next.primary) one.left x (versions_remain one.remain)
             (subst (λ m. OfOneHistory (shown_by x.kind next.primary) m) shows (OfOneHistory-itself (shown_by x.kind next.primary))));
@@ -445,6 +484,9 @@ root_numbers key cell is =
     let root = root_cell key cell is in
     (subst (KeyBelow 1) (sym root.0) (omega arith), subst (λ c. ContentBelow 1 c.payload) (sym root.1) tt)
 
+root_payloads : HasBlocks root_cells
+root_payloads key cell is = subst (λ c. IsWhole c.payload) (sym (root_cell key cell is).1) tt
+
 pub worlds_begin_lem : WorldsBegin
 worlds_begin_lem limits = record {
   order = IsOrdered-empty limits;
@@ -453,6 +495,8 @@ worlds_begin_lem limits = record {
   frozen_stamps = tt;
   numbers = root_numbers;
   frozen_numbers = tt;
+  payloads = root_payloads;
+  frozen_payloads = tt;
   versions = tt;
   frozen_versions = tt;
 }

@@ -1,5 +1,5 @@
 -- What follows of the definitions alone.
-use Rattle.std.specs.Prelude.{◌≡◌, ◌≢◌, ◌≤◌, ◌<◌, ⊤, ℕ, ◌+◌, false, List, [], ◌∷◌, Option, Some, None, IfSome, nat_eq, if◌then◌else◌, find}
+use Rattle.std.specs.Prelude.{◌≡◌, ◌≢◌, ◌≤◌, ◌<◌, ⊤, ℕ, ◌+◌, false, List, [], ◌∷◌, length, Option, Some, None, IfSome, nat_eq, if◌then◌else◌, find}
 use Rattle.std.specs.List.{AllByRecursion}
 use Rattle.std.specs.Option.{option_map, option_or, option_map_or}
 use Rattle.std.specs.FinMap as map
@@ -48,6 +48,18 @@ ContentBelow next None = ⊤
 abbrev pub NumbersBelow : ℕ → Cells → Type 0
 NumbersBelow next cells = (key : Key) (cell : Cell) → map.get cells key ≡ Some cell → KeyBelow next key × ContentBelow next cell.payload
 
+-- bytes that are held are those of a whole block
+abbrev pub IsWhole : Content → Type 0
+IsWhole (Some (To node)) = ⊤
+IsWhole (Some (File size)) = ⊤
+IsWhole (Some Dir) = ⊤
+IsWhole (Some (Bytes bytes)) = length bytes ≡ 4096
+IsWhole None = ⊤
+
+-- each payload of bytes has 4,096 of them
+abbrev pub HasBlocks : Cells → Type 0
+HasBlocks cells = (key : Key) (cell : Cell) → map.get cells key ≡ Some cell → IsWhole cell.payload
+
 -- a map of this kind and that of a checkpoint are of one history, each as the other's kind shows it
 abbrev pub Agree : Kind → Cells → Checkpoint → Type 0
 Agree kind cells checkpoint = OfOneHistory (shown_by checkpoint.kind cells) (shown_by kind checkpoint.cells)
@@ -66,6 +78,9 @@ pub record IsWorld (w : World) : Type 0 where
   pub frozen_stamps : AllByRecursion (λ checkpoint. StampsBelow w.next.stamp checkpoint.cells) w.checkpoints
   pub numbers : NumbersBelow w.next.number w.primary
   pub frozen_numbers : AllByRecursion (λ checkpoint. NumbersBelow w.next.number checkpoint.cells) w.checkpoints
+  -- bytes stand in whole blocks
+  pub payloads : HasBlocks w.primary
+  pub frozen_payloads : AllByRecursion (λ checkpoint. HasBlocks checkpoint.cells) w.checkpoints
   -- equal stamps at a key mean equal cells, in all maps, but for marks
   pub versions : AllByRecursion (Agree Keeping w.primary) w.checkpoints
   pub frozen_versions : EachTwo (λ older newer. Agree older.kind older.cells newer) w.checkpoints
@@ -74,9 +89,14 @@ pub record IsWorld (w : World) : Type 0 where
 abbrev pub WorldsBegin : Type 0
 WorldsBegin = (limits : Limits) → IsWorld (empty_world limits)
 
--- every table that obeys the rules stands for one
+-- the data blocks below this number have 4,096 bytes each
+abbrev pub StoresBlocks : ℕ → Store → Type 0
+StoresBlocks blocks store = (block : ℕ) → block < blocks → length (store block) ≡ 4096
+
+-- every table that obeys the rules stands for one, over data blocks of that length
 abbrev pub TablesStand : Type 0
-TablesStand = (store : Store) (mounts : Mounts) (t : Table) → IsTable t → IsOrderly t → IsWorld (world_on store mounts t)
+TablesStand =
+    (store : Store) (mounts : Mounts) (t : Table) → IsTable t → IsOrderly t → StoresBlocks t.blocks store → IsWorld (world_on store mounts t)
 
 -- every call leaves one
 abbrev pub CallsKeepWorlds : Type 0

@@ -23,9 +23,9 @@ pub fn changes_apply()
 
 /// What holds of every world that a volume has: its checkpoints stand by their ids, all below the
 /// next id; a nodata one has marks in place of blocks; no two have one name; no stamp and no number of
-/// a file that a map has is still to be given; and in all maps, but for marks, equal stamps at a key
-/// mean equal cells. It holds of the empty world and of that of every table that obeys the rules, and
-/// stays so in every call and through every legal history.
+/// a file that a map has is still to be given; each payload of bytes has 4,096 of them; and in all
+/// maps, but for marks, equal stamps at a key mean equal cells. It holds of the empty world and of that
+/// of every table that obeys the rules, and stays so in every call and through every legal history.
 pub fn worlds_stay()
     ensures begin { WorldsBegin }
     ensures tables { TablesStand }

@@ -13,7 +13,7 @@ pub returns-then-self-eq0-clause-marks : goal.returns-then-self-eq0-clause-marks
 returns-then-self-eq0-clause-marks g c = lost_marks (g.D.Disk.means c.args.self.now.inner) _ _ c.args.at c.more.ensures
 
 pub returns-then-self-eq0-clause-step : goal.returns-then-self-eq0-clause-step
-returns-then-self-eq0-clause-step g c = lost_step _ _ _ c.args.at c.more.ensures _ _ _ (omega arith)
+returns-then-self-eq0-clause-step g c = lost_step _ _ _ c.args.at c.more.ensures (g.met.D.Disk.lawful c.args.self.now.inner) _ _ _ (omega arith)
 
 pub returns-then-self-eq0-clause-lost : goal.returns-then-self-eq0-clause-lost
 returns-then-self-eq0-clause-lost g c = λ spent. lost_counts (g.D.Disk.means c.args.self.now.inner) _ _ c.args.at c.more.ensures

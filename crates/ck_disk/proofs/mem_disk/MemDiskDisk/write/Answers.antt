@@ -11,7 +11,7 @@ returns-then-due-clause-others c = λ told. set_same _ _
 pub returns-then-due-clause-crash : goal.returns-then-due-clause-crash
 returns-then-due-clause-crash c =
     let stood : c.index-was.result.now ≡ get_or c.args.self.now.blocks.items c.args.at [] = get_or_read c.args.self.now.blocks.items c.args.at c.index-was.result.now c.requires c.index-was.ensures [] in
-    failed_torn _ _ _ c.args.at c.index-was.result.now stood c.requires c.note-noted.result c.note-noted.ensures.ok c.note-noted.ensures.err
+    failed_torn _ _ _ c.args.at c.index-was.result.now stood c.requires c.args.self.now.consists c.note-noted.result c.note-noted.ensures.ok c.note-noted.ensures.err
 
 pub returns-then-due-clause-marks : goal.returns-then-due-clause-marks
 returns-then-due-clause-marks c =
@@ -26,7 +26,7 @@ returns-then-due-clause-step c =
 pub returns-clause-crash : goal.returns-clause-crash
 returns-clause-crash c =
     let stood : c.index-was.result.now ≡ get_or c.args.self.now.blocks.items c.args.at [] = get_or_read c.args.self.now.blocks.items c.args.at c.index-was.result.now c.requires c.index-was.ensures [] in
-    torn_to _ _ _ c.args.at c.index-was.result.now _ (c.if-not-noted.ensures.ok refl) stood c.requires
+    torn_to _ _ _ c.args.at c.index-was.result.now _ (c.if-not-noted.ensures.ok refl) stood c.requires c.args.self.now.consists
 
 pub returns-clause-marks : goal.returns-clause-marks
 returns-clause-marks c = λ k ne clean. marks_write c.args.self.now.steps.items _ c.args.at c.index-was.result.now (c.if-not-noted.ensures.ok refl) k ne clean
