@@ -3,10 +3,10 @@ use Rattle.std.proofs.Common.{◌≡◌, ◌≢◌, inl, inr, ℕ, ◌+◌, ◌-
 use Rattle.std.specs.FinMap as map
 use Rattle.std.specs.FinSet as set
 use Rattle.std.specs.Ordering.{nat_cmp}
-use Rattle.ck_disk.specs.Disk.{Image, Meaning, Lawful, Step, LeavesOnly, Agrees, Outside, IsSynced}
-use Rattle.ck_log.specs.Layout.{Layout, base_of, size_of}
+use Rattle.ck_disk.specs.Disk.{Image, Meaning, Lawful, Step, LeavesOnly, Agrees, IsSynced}
+use Rattle.ck_log.specs.Layout.{Layout, OutsideGateAndAreas, base_of, size_of}
 use Rattle.ck_log.specs.Images.{table_on, names_second, Settled, CommitLeaves}
-use Rattle.ck_log.proofs.AreaLaws.{area_low, area_high}
+use Rattle.ck_log.proofs.AreaLaws.{area_low, area_high, outside_both}
 use Rattle.ck_log.proofs.RecoveryLaws.{table_on-set, settled-keeps}
 use Rattle.ck_alloc.specs.Blocks.{Allocation, IsPartition, free_count}
 use Rattle.ck_model.specs.World.{World, unmounted}
@@ -205,7 +205,7 @@ module _ {D : Type 0} where
     -- its end
     module _ (new_law : Lawful new) (layout : layout_of after ≡ record (layout_of before) { second = (layout_of after).second }) (table : table_of after ≡ table_of before) (mounts : mounts_of after ≡ mounts_of before)
         (settled : Settled (layout_of after) new) (synced : IsSynced new) (shown : IsTrue old.tells → table_on (layout_of after) new.shows ≡ commits.after)
-        (others : IsTrue old.tells → Agrees (Outside 1 (base_of (layout_of before).records - 1)) old.shows new.shows)
+        (others : IsTrue old.tells → Agrees (OutsideGateAndAreas (layout_of before).records) old.shows new.shows)
         (free : blocks_of after ≡ record (blocks_of before) { pending = set.empty }) (partition : IsPartition (blocks_of after)) where
       abbrev base : ℕ
       base = base_of (layout_of before).records
@@ -218,7 +218,7 @@ module _ {D : Type 0} where
       commit-world told =
           let here = (others told) in
           (λ i. world_on (store_on new.shows (base_of (layout i).records)) (mounts i) (table i))
-          ∙ world_same (table_of before) (mounts_of before) (store_on new.shows base) (store_on old.shows base) (λ block named. sym (here.at (base + block) (inr (omega (arith, base_high)))))
+          ∙ world_same (table_of before) (mounts_of before) (store_on new.shows base) (store_on old.shows base) (λ block named. sym (here.at (base + block) (outside_both (layout_of before).records (base + block) (inr (omega (arith, base_high))))))
 
       pub commit-committed : IsTrue old.tells → (w : World) → KeepsWorld old before w → KeepsWorld new after (unmounted (world_of new.shows after))
       commit-committed told w keeps =

@@ -8,7 +8,7 @@ ghost use Rattle.ck_files.specs.Reports.{limits_of};
 ghost use Rattle.ck_data.specs.declared.fault.Fault.TheVariants as fault;
 ghost use Rattle.ck_data.specs.Writes.{IsWritingFault};
 ghost use Rattle.ck_engine.specs.Exact.{IsExact};
-ghost use Rattle.ck_engine.specs.Engine.{disk_of, mounts_of, blocks_of, table_of, layout_of, data_of, world_of, IsWhole, KeepsWorld, GoesOnOrBreaks, IsAttempt};
+ghost use Rattle.ck_engine.specs.Engine.{disk_of, mounts_of, blocks_of, table_of, layout_of, data_of, world_of, IsWhole, KeepsWorld, GoesOnOrBreaks, IsAttempt, no_memory};
 
 use ck_alloc::Blocks;
 use ck_data::{DataArea, Fault};
@@ -45,6 +45,9 @@ impl<D: Disk> Engine<D> {
         ensures settled { OnOk result (blocks_of self.new ≡ record (blocks_of self.old) { pending = set.empty }) }
         ensures fault { IfErr result (IsWritingFault (D.means (disk_of self.old)) (D.means (disk_of self.new))) }
         ensures no_read { IfErr result (λ why. why ≢ fault.ReadFault) }
+
+        // Refused memory leaves it as it was: the device isn't called.
+        ensures no_memory { IfErr result (λ why. why ≡ no_memory → self.new ≡ self.old) }
 
         // Afterwards a crash leaves the present world, and nothing beside it.
         ensures exact { OnOk result (IsTrue (D.means (disk_of self.old)).tells → (w : World) → KeepsWorld (D.means (disk_of self.old)) self.old w

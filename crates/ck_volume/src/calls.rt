@@ -213,6 +213,9 @@ impl<D: Disk> Volume<D> {
         ensures cause { result ≡ answer.WriteFault → Rose (D.means (disk_of self.old)).write_faults (D.means (disk_of self.new)).write_faults }
         ensures runs { Runs (D.means (disk_of self.old)) (D.means (disk_of self.new)) }
 
+        // Refused memory leaves files, device and history as they were: nothing was written.
+        ensures no_memory { result ≡ answer.NoMemory → KeepsAllButRoom self.old self.new }
+
         ensures committed_entries { committed_of self.new ≡ committed_after (length_of self.new) (committed_of self.old) result }
         ensures origin { origin_of self.new ≡ origin_of self.old }
         ensures spoilt { spoilt_of self.new ≡ spoilt_after (length_of self.new) (spoilt_of self.old) result }

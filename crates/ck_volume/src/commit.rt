@@ -44,6 +44,9 @@ pub(crate) fn commit<D: Disk>(engine: &mut Engine<D>, log: &mut Log, alloc: Glob
     ensures cause { result ≡ answer.WriteFault → Rose (D.means (disk_of engine.old)).write_faults (D.means (disk_of engine.new)).write_faults }
     ensures runs { Runs (D.means (disk_of engine.old)) (D.means (disk_of engine.new)) }
 
+    // Refused memory leaves files, device and log as they were.
+    ensures no_memory { result ≡ answer.NoMemory → present engine.new log.new ≡ present engine.old log.old }
+
     // A crash at any moment of it leaves the world that was committed before, or the present one.
     ensures survives { broken_of (present engine.old log.old) ≡ None → Survives (D.means (disk_of engine.old)) (D.means (disk_of engine.new)) (present engine.old log.old) }
 

@@ -39,3 +39,9 @@ returns-in-Ok-clause-exact g c = λ told w keeps image left.
     (commit-committed (g.D.Disk.means c.args.self.now.disk) new c.args.self.now after (g.met.D.Disk.lawful c.args.self.now.disk) c.requires.whole _ e.commits
     (g.met.D.Disk.lawful c.commit.new.disk) e.region refl refl e.settled e.synced e.commits.at_the_end e.others c.settle.ensures.free c.settle.ensures.partition told w keeps)
     image left
+
+pub returns-in-Err-NoMemory-clause-no_memory : goal.returns-in-Err-NoMemory-clause-no_memory
+returns-in-Err-NoMemory-clause-no_memory g c = λ is.
+    let region = c.in-Err-NoMemory.ensures.kept in
+    let disk = c.in-Err-NoMemory.ensures.same_disk refl in
+    (λ i. record c.args.self.now { region = region i; disk = disk i })
