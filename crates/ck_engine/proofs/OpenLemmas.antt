@@ -55,16 +55,15 @@ synced-safe layout t m law told synced holds = record {
       record { size = same.size; at = λ k at. same.at k (synced k) };
 }
 
-three_false : (a b c : Bool) → (a || not b || c) ≡ false → (a ≡ false) × (b ≡ true) × (c ≡ false)
-three_false true b c h = absurd (false≢true (sym h))
-three_false false true c h = (refl, refl, h)
-three_false false false c h = absurd (false≢true (sym h))
+both_false : (b c : Bool) → (not b || c) ≡ false → (b ≡ true) × (c ≡ false)
+both_false true c h = (refl, h)
+both_false false c h = absurd (false≢true (sym h))
 
 -- no checkpoint is of a form that isn't built
 pub plain_built : (t : Table) → IsBuilt t → IsPlain t
 plain_built t built id fileset has =
-    let f = three_false fileset.gone (keeps_files fileset.kind) fileset.removable (built id fileset has) in
-    record { gone = f.0; keeps = f.1; stays = f.2 }
+    let f = both_false (keeps_files fileset.kind) fileset.removable (built id fileset has) in
+    record { keeps = f.0; stays = f.1 }
 
 pub opened-holds : (layout : Layout) (t : Table) (m : Meaning) → Lawful m → IsTrue m.tells → recovered_region m.shows ≡ OpensAt layout → Settled layout m → IsOpenedTable layout m t → HoldsTable layout t m.shows
 opened-holds layout t m law told found settled opened = record {
