@@ -16,6 +16,7 @@ pub mod WorldAfter
 pub mod MadeLemmas
 pub mod NewBlocks
 pub mod ChangeLemmas
+pub mod PlanLemmas
 pub mod PlacedLemmas
 pub mod PlacedLaws
 pub mod NamesLemmas
