@@ -190,7 +190,7 @@ pub commit-safe : (layout : Layout) (second : Bool) (safe_table t : Table) (afte
 commit-safe layout second safe_table t after old new law new_law told new_told ours blocks records safe slots leaves shown settled synced = record {
   table = λ image left.
       let K = OutsideGateAndAreas layout.records in
-    let header : K 0 = outside_both layout.records 0 (inl (omega arith)) in
+      let header : K 0 = outside_both layout.records 0 (inl (omega arith)) in
       let has = settled new_told image left in
       let there = safe.table old.shows (law.shown told) in
       let gate : recovered_region image ≡ OpensAt (gated layout image) =

@@ -1,4 +1,4 @@
-use Rattle.std.proofs.Common.{refl}
+use Rattle.std.proofs.Common.{◌≡◌, refl}
 use Rattle.ck_model.specs.World.{unmounted}
 use Rattle.ck_engine.specs.Engine.{blocks_of, layout_of, table_of, world_of}
 use Rattle.ck_engine.proofs.KeptLaws.{committed-exact}
@@ -42,6 +42,6 @@ returns-in-Ok-clause-exact g c = λ none told w keeps image left.
 
 pub returns-in-Err-NoMemory-clause-no_memory : goal.returns-in-Err-NoMemory-clause-no_memory
 returns-in-Err-NoMemory-clause-no_memory g c = λ is.
-    let region = c.in-Err-NoMemory.ensures.kept in
-    let disk = c.in-Err-NoMemory.ensures.same_disk refl in
+    let region : c.commit.new.region ≡ c.args.self.now.region = c.in-Err-NoMemory.ensures.kept in
+    let disk : c.commit.new.disk ≡ c.args.self.now.disk = c.in-Err-NoMemory.ensures.same_disk c.in-Err-NoMemory.field-0-is in
     (λ i. record c.args.self.now { region = region i; disk = disk i })
