@@ -1,5 +1,5 @@
 -- A volume as it is made.
-use Rattle.std.proofs.Common.{◌≡◌, ℕ, ◌||◌, ◌≤◌, false, is_some, IsTrue, None, [], refl, sym, ap, subst, ◌∙◌}
+use Rattle.std.proofs.Common.{◌≡◌, ℕ, ◌||◌, ◌≤◌, false, is_some, IsTrue, None, Some, [], refl, sym, ap, subst, ◌∙◌}
 use mathlib.Core.Bool.{false≢true}
 use Rattle.std.specs.Ordering.{nat_cmp}
 use Rattle.std.specs.FinMap as map
@@ -9,6 +9,8 @@ use Rattle.ck_log.specs.Layout.{Layout, table_blocks, base_of, size_of}
 use Rattle.ck_log.specs.Header.{Opens as OpensAt}
 use Rattle.ck_log.specs.FirstTable.{first_table, new_layout}
 use Rattle.ck_log.specs.Images.{recovered_region, table_on, Settled}
+use Rattle.ck_model.specs.declared.checkpoint.Fileset.{Fileset}
+use Rattle.ck_model.specs.Placed.{NoneGone}
 use Rattle.ck_model.specs.TableWorld.{world_on}
 use Rattle.ck_model.specs.Table.{Table}
 use Rattle.ck_area.specs.Area.{AreSlots, new_table}
@@ -16,6 +18,7 @@ use Rattle.ck_slots.specs.Formatted.{StandsForEmpty}
 use Rattle.ck_slots.specs.Written.{slots_of}
 use Rattle.ck_files.specs.Allocated.{IsAllocated}
 use Rattle.ck_data.specs.Device.{store_on}
+use Rattle.ck_engine.specs.Committed.{IsCommitted}
 use Rattle.ck_engine.specs.Formatted.{new_world, IsFormatted}
 use Rattle.ck_files.specs.Plain.{IsOurs, IsPlain}
 use Rattle.ck_engine.specs.Safe.{HoldsTable}
