@@ -1,6 +1,6 @@
 ghost use Rattle.std.specs.Prelude.{◌≡◌, ◌≤◌, ◌<◌, ◌+◌, IfSome, length, slice_get, take};
 ghost use Rattle.ck_script.specs.Numbered.{numbers_in, IsNumbered};
-ghost use Rattle.ck_actor.specs.Place.{answered_count, next_number as number_of_next, IsFound};
+ghost use Rattle.ck_actor.specs.Place.{next_number as number_of_next, IsFound};
 
 use ck_script::Line;
 
@@ -14,8 +14,6 @@ pub struct Place {
 
 /// The first line of an actor's call from a line on, or the end.
 fn next_line(lines: &[Line], from: usize, actor: u32) -> usize
-    requires { from ≤ length lines.now }
-    ensures order { from ≤ result }
     ensures within { result ≤ length lines.now }
     ensures own { IfSome (slice_get lines.now result) (λ line. line.actor ≡ actor) }
     ensures between { numbers_in (take result lines.now) actor ≡ numbers_in (take from lines.now) actor }
@@ -38,7 +36,6 @@ impl Place {
 
     /// Goes on to the line of its next call, or to the end.
     pub fn seek(&mut self, lines: &[Line])
-        requires { self.old.line ≤ length lines.now }
         ensures found { IsFound lines.now self.new }
         ensures actor { self.new.actor ≡ self.old.actor }
         ensures between { numbers_in (take self.new.line lines.now) self.old.actor ≡ numbers_in (take self.old.line lines.now) self.old.actor }
@@ -52,7 +49,7 @@ impl Place {
         requires left { self.old.line < length lines.now }
         ensures found { IsFound lines.now self.new }
         ensures actor { self.new.actor ≡ self.old.actor }
-        ensures answered { answered_count lines.now self.new ≡ answered_count lines.now self.old + 1 }
+        ensures behind { numbers_in (take self.new.line lines.now) self.old.actor ≡ numbers_in (take (self.old.line + 1) lines.now) self.old.actor }
     {
         self.line += 1;
         self.seek(lines);
@@ -60,8 +57,7 @@ impl Place {
 
     /// The number of its next call, if one is left.
     pub fn next_number(&self, lines: &[Line]) -> Option<u32>
-        requires within { self.now.line ≤ length lines.now }
-        requires numbered { IsNumbered lines.now }
+        requires { IsNumbered lines.now }
         ensures { result ≡ number_of_next lines.now self.now }
     {
         let at = next_line(lines, self.line, self.actor);

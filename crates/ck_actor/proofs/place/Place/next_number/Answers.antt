@@ -17,7 +17,7 @@ returns-then-at-lines c =
     let count : ℕ = answered_count lines place in
     let same : length (numbers_in (take at lines) place.actor) ≡ count = ap (λ (numbers : List ℕ). length numbers) c.next_line-at.ensures.between in
     let less = left_at lines at line place.actor within c.index-lines-at.is own in
-    let number = own_number lines at line place.actor c.requires.numbered within c.index-lines-at.is own in
+    let number = own_number lines at line place.actor c.requires within c.index-lines-at.is own in
     let is : line.seq ≡ count + 1 = omega (arith, number, same) in
     let left : nat_lt count (call_count lines place.actor) ≡ true = grind (arith, nat_tests, less, same) in
     ap (λ (line : Line). Some line.seq) (sym c.index-lines-at.is) ∙ ap (λ n. Some n) is ∙ sym (ap (λ b. if b then Some (count + 1) else None) left)
