@@ -1,4 +1,5 @@
 pub mod CountLemmas
 pub mod TurnLemmas
 pub mod PlaceLemmas
+pub mod ActorLemmas
 pub mod WorkedScripts

@@ -3,11 +3,13 @@ use Rattle.std.proofs.Common.{◌≡◌, ℕ, zero, suc, ◌+◌, ◌<◌, ◌�
 use Rattle.std.specs.Prelude.{slice_get}
 use Rattle.std.specs.List.{cons_option, range_with_len}
 use Rattle.std.proofs.lemmas.Bool.Decides.{nat_tests}
-use Rattle.std.proofs.lemmas.List.{take_more, take-append-drop, append-nil}
+use Rattle.std.proofs.lemmas.List.{take_more, take_all, take-append-drop, map-append, append-nil}
 use Rattle.std.proofs.lemmas.List.Elements.{filter_map-append}
 use Rattle.std.proofs.lemmas.Option.{slice_get_read, slice_get_past, slice_get_cases}
+use Rattle.ck_model.specs.declared.call.Call.{Call}
+use Rattle.ck_model.specs.History.{calls_of, call_at}
 use Rattle.ck_script.specs.declared.line.Line.{Line}
-use Rattle.ck_script.specs.Numbered.{numbers_in, IsNumbered}
+use Rattle.ck_script.specs.Numbered.{calls_in, numbers_in, IsNumbered}
 
 numbers_in-append : (before after : List Line) (actor : ℕ) → numbers_in (before ++ after) actor ≡ numbers_in before actor ++ numbers_in after actor
 numbers_in-append before after actor = filter_map-append (λ (l : Line). if nat_eq l.actor actor then Some l.seq else None) before after
@@ -90,13 +92,46 @@ own_at lines at line actor within is own =
     let same : line.actor ≡ actor = subst (λ found. IfSome found (λ line. line.actor ≡ actor)) (slice_get_read lines (length lines) at line refl within is) own in
     grind (arith, nat_tests, same)
 
--- behind the actor's own line one more was answered
-pub one_answered : (lines : List Line) (at : ℕ) (line : Line) (actor : ℕ) → at < length lines → line ≡ get_or lines at line → nat_eq line.actor actor ≡ true → length (numbers_in (take (at + 1) lines) actor) ≡ length (numbers_in (take at lines) actor) + 1
-one_answered lines at line actor within is own = ap (λ (numbers : List ℕ). length numbers) (own_line lines at line actor within is own) ∙ simp length-append
+-- ---- the call of a line
 
-pub one_answered_there : (lines : List Line) (at actor : ℕ) → at < length lines → IfSome (slice_get lines at) (λ line. line.actor ≡ actor) → length (numbers_in (take (at + 1) lines) actor) ≡ length (numbers_in (take at lines) actor) + 1
-one_answered_there lines at actor within own =
+calls_as_many : (lines : List Line) (actor : ℕ) → length (calls_of (calls_in lines) actor) ≡ length (numbers_in lines actor)
+calls_as_many [] actor = refl
+calls_as_many (line ∷ lines) actor =
+    elim (nat_eq line.actor actor) as (λ b. length (cons_option (cond b (Some line.call) None) (calls_of (calls_in lines) actor)) ≡ length (cons_option (cond b (Some line.seq) None) (numbers_in lines actor))) [
+      | true ↦ ap suc (calls_as_many lines actor)
+      | false ↦ calls_as_many lines actor
+    ]
+
+calls_around : (lines : List Line) (at : ℕ) (line : Line) (actor : ℕ) → at < length lines → line ≡ get_or lines at line → nat_eq line.actor actor ≡ true
+    → calls_of (calls_in lines) actor ≡ calls_of (calls_in (take at lines)) actor ++ line.call ∷ calls_of (calls_in (drop (suc at) lines)) actor
+calls_around lines at line actor within is own =
+    ap (λ xs. calls_of (calls_in xs) actor) (parts lines at line actor within is)
+    ∙ ap (λ script. calls_of script actor) (map-append (λ (l : Line). (l.actor, l.call)) (take at lines) (line ∷ drop (suc at) lines))
+    ∙ filter_map-append (λ (l : ℕ × Call). if nat_eq l.0 actor then Some l.1 else None) (calls_in (take at lines)) (calls_in (line ∷ drop (suc at) lines))
+    ∙ ap (λ b. calls_of (calls_in (take at lines)) actor ++ cons_option (cond b (Some line.call) None) (calls_of (calls_in (drop (suc at) lines)) actor)) own
+
+-- a line's own actor and number lead to its call
+pub own_call : (lines : List Line) (at : ℕ) (line : Line) (actor : ℕ) → IsNumbered lines → at < length lines → line ≡ get_or lines at line → nat_eq line.actor actor ≡ true → call_at (calls_in lines) actor line.seq ≡ Some line.call
+own_call lines at line actor numbered within is own =
+    let before = calls_of (calls_in (take at lines)) actor in
+    let number : line.seq ≡ suc (length before) = omega (arith, own_number lines at line actor numbered within is own, calls_as_many (take at lines) actor) in
+    ap (call_at (calls_in lines) actor) number
+    ∙ ap (λ xs. slice_get xs (length before)) (calls_around lines at line actor within is own)
+    ∙ get_here before line.call (calls_of (calls_in (drop (suc at) lines)) actor)
+
+-- ---- the end
+
+-- no call is left exactly where the place is the end
+pub all_before : (lines : List Line) (at actor : ℕ) → length lines ≤ at → numbers_in (take at lines) actor ≡ numbers_in lines actor
+all_before lines at actor past = ap (λ xs. numbers_in xs actor) (take_all at lines past)
+
+pub none_left : (lines : List Line) (at actor : ℕ) → IfSome (slice_get lines at) (λ line. line.actor ≡ actor) → numbers_in (take at lines) actor ≡ numbers_in lines actor → length lines ≤ at
+none_left lines at actor own all =
     elim (slice_get_cases lines at).1 [
-      | inl there ↦ one_answered lines at there.0 actor within (sym there.3) (own_at lines at there.0 actor within (sym there.3) own)
-      | inr past ↦ absurd (omega (arith, within, past.0))
+      | inl there ↦
+          let own = own_at lines at there.0 actor there.1 (sym there.3) own in
+          let less = left_at lines at there.0 actor there.1 (sym there.3) own in
+          let same : length (numbers_in (take at lines) actor) ≡ length (numbers_in lines actor) = ap (λ (numbers : List ℕ). length numbers) all in
+          absurd (omega (arith, less, same))
+      | inr past ↦ past.0
     ]
