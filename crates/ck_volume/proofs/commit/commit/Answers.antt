@@ -22,6 +22,9 @@ returns-in-Err-NoMemory-clause-kept g c = λ unbroken told w keeps.
 pub returns-in-Ok-clause-committed : goal.returns-in-Ok-clause-committed
 returns-in-Ok-clause-committed g c = λ done told w keeps. c.in-Ok.ensures.committed told w keeps
 
+pub returns-in-Ok-clause-exact : goal.returns-in-Ok-clause-exact
+returns-in-Ok-clause-exact g c = λ none done told w keeps image left. c.in-Ok.ensures.exact none told w keeps image left
+
 -- refused memory leaves the files as they were
 pub returns-in-Err-NoMemory-clause-no_memory : goal.returns-in-Err-NoMemory-clause-no_memory
 returns-in-Err-NoMemory-clause-no_memory g c = λ is.
