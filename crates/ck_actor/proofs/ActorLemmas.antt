@@ -1,13 +1,15 @@
 -- The entries of an actor, and its calls before its place.
-use Rattle.std.proofs.Common.{◌≡◌, ◌≤◌, ◌<◌, ℕ, zero, suc, ◌+◌, ◌-◌, true, Some, None, List, [], ◌∷◌, ◌++◌, length, take, get_or, nat_eq, if◌then◌else◌, sym, ap, subst, ◌∙◌, arith}
+use Rattle.std.proofs.Common.{◌≡◌, ◌≤◌, ◌<◌, ℕ, zero, suc, ◌+◌, ◌-◌, true, Some, None, IfSome, List, [], ◌∷◌, ◌++◌, length, take, get_or, nat_eq, if◌then◌else◌, inl, inr, sym, ap, subst, ◌∙◌, arith, length-append}
+use Rattle.std.specs.Prelude.{slice_get}
 use Rattle.std.specs.List.{cons_option, AllByRecursion}
+use Rattle.std.proofs.lemmas.Option.{slice_get_cases}
 use Rattle.std.proofs.lemmas.Bool.Decides.{nat_tests}
 use Rattle.std.proofs.lemmas.List.Elements.{filter_map-append}
 use Rattle.ck_model.specs.declared.entry.Entry.{Entry}
 use Rattle.ck_model.specs.History.{numbers_of}
 use Rattle.ck_script.specs.declared.line.Line.{Line}
 use Rattle.ck_script.specs.Numbered.{numbers_in}
-use Rattle.ck_actor.proofs.PlaceLemmas.{own_line, left_at}
+use Rattle.ck_actor.proofs.PlaceLemmas.{own_at, own_line, left_at}
 
 numbers_of-more : (history : List Entry) (entry : Entry) (actor : ℕ) → entry.actor ≡ actor → numbers_of (history ++ entry ∷ []) actor ≡ numbers_of history actor ++ entry.seq ∷ []
 numbers_of-more history entry actor own =
@@ -30,6 +32,14 @@ pub room_here : (lines : List Line) (at : ℕ) (line : Line) (actor room : ℕ) 
     → length (numbers_in lines actor) - length (numbers_in (take at lines) actor) ≤ room → 0 < room
 room_here lines at line actor room within is own enough = let less = left_at lines at line actor within is own in omega (arith, less, enough)
 
+pub room_there : (lines : List Line) (at actor room : ℕ) → at < length lines → IfSome (slice_get lines at) (λ line. line.actor ≡ actor)
+    → length (numbers_in lines actor) - length (numbers_in (take at lines) actor) ≤ room → 0 < room
+room_there lines at actor room within own enough =
+    elim (slice_get_cases lines at).1 [
+      | inl there ↦ room_here lines at there.0 actor room there.1 (sym there.3) (own_at lines at there.0 actor there.1 (sym there.3) own) enough
+      | inr past ↦ absurd (omega (arith, within, past.0))
+    ]
+
 pub all_more : (P : Entry → Type 0) (history : List Entry) (entry : Entry) → AllByRecursion P history → P entry → AllByRecursion P (history ++ entry ∷ [])
 all_more P [] entry h p = (p, tt)
 all_more P (first ∷ history) entry h p = (h.0, all_more P history entry h.1 p)
@@ -39,3 +49,6 @@ pub each_at : {A : Type 0} (P : A → Type 0) (xs : List A) (at : ℕ) (x : A) �
 each_at P [] at x all within is = absurd (omega (arith, within))
 each_at P (y ∷ xs) zero x all within is = subst P (sym is) all.0
 each_at P (y ∷ xs) (suc at) x all within is = each_at P xs at x all.1 (omega (arith, within)) is
+
+pub longer : (history : List Entry) (entry : Entry) → length (history ++ entry ∷ []) ≡ length history + 1
+longer history entry = simp length-append (omega arith)

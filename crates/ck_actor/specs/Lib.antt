@@ -1,3 +1,4 @@
 pub mod Counts
 pub mod Turns
 pub mod Place
+pub mod Actor

@@ -1,6 +1,7 @@
 //! Actors: whose call each turn of a script works on.
 #![tactic(auto)]
 
+mod actor;
 mod place;
 
-pub use place::Place;
+pub use actor::{Actor, ActorTurn};

@@ -1,0 +1,182 @@
+ghost use Rattle.std.specs.Prelude.{◌≡◌, ◌≤◌, ◌<◌, ◌+◌, ◌↔◌, ℕ, List, [], None, IsTrue, length, take};
+ghost use Rattle.std.specs.List.{AllByRecursion};
+ghost use Rattle.ck_model.specs.History.{call_at, numbers_of};
+ghost use Rattle.ck_script.specs.declared.line.Line.{Line as Lines};
+ghost use Rattle.ck_script.specs.Numbered.{calls_in, numbers_in, IsNumbered};
+ghost use Rattle.ck_files.specs.Built.{IsBuilt};
+ghost use Rattle.ck_volume.specs.Told.{AreAnswered};
+ghost use Rattle.ck_volume.specs.TopCuts.{synced_count};
+ghost use Rattle.ck_volume.specs.Volume.{committed_of, history_of, origin_of, room_of, spoilt_of, told_of};
+ghost use Rattle.ck_actor.specs.Actor.{begins as begun_next, calls_left, number_of, AddsAtMostOne, IsThrough, Stands};
+ghost use Rattle.ck_actor.specs.Place.{IsFound};
+ghost use Rattle.ck_actor.specs.declared.actor.ActorTurn.TheVariants.{Through};
+
+use crate::place::Place;
+use ck_disk::Disk;
+use ck_io::Clock;
+use ck_script::{Line, Script};
+use ck_volume::{Progress, Turn, Volume};
+use std::alloc::Global;
+
+/// Whether calls of an actor are left.
+#[derive(Clone, Copy, Debug, PartialEq, Eq)]
+pub enum ActorTurn {
+    More,
+    /// Every call of the actor was answered.
+    Through,
+}
+
+/// An actor of a script: which of its calls were answered, and how far the next one has come.
+#[derive(Drop)]
+pub struct Actor {
+    place: Place,
+    /// When the call began that its next turn goes on with.
+    began: u64,
+    progress: Progress,
+}
+
+impl Actor {
+    /// No call of it was answered yet.
+    pub fn new(number: u32) -> Actor
+        ensures number { number_of result ≡ number }
+        ensures stands { (lines : List Lines) → Stands lines [] result }
+    {
+        Actor {
+            place: Place::new(number),
+            began: 0,
+            progress: Progress::Fresh,
+        }
+    }
+
+    /// The number of the call that its next turn begins. There is none where that turn goes on with a
+    /// call that was begun, or where all its calls were answered.
+    pub fn begins(&self, script: &Script) -> Option<u32>
+        ensures { result ≡ begun_next script.now.calls self.now }
+    {
+        match self.progress {
+            Progress::Fresh => self.place.next_number(script.calls.items()),
+        }
+    }
+
+    /// The moment of the next turn's call: the clock is read where the turn begins it.
+    fn moment<C: Clock>(&mut self, clock: &mut C) -> u64
+        ensures told { IsTrue (C.means clock.old).tells → result ≡ (C.means clock.old).moment }
+        ensures place { self.new.place ≡ self.old.place }
+        ensures clock { C.means clock.new ≡ C.means clock.old }
+    {
+        match self.progress {
+            Progress::Fresh => self.began = clock.now(),
+        }
+        self.began
+    }
+
+    /// Makes one event of the call at its line, which began at this moment.
+    fn event<D: Disk>(&mut self, alloc: Global, volume: &mut Volume<D>, at: u64, lines: &[Line])
+        requires numbered { IsNumbered lines.now }
+        requires found { IsFound lines.now self.old.place }
+        requires left { self.old.place.line < length lines.now }
+        requires stands { Stands lines.now (history_of volume.old) self.old }
+        requires room { 0 < room_of volume.old }
+        requires unspoilt { spoilt_of volume.old ≡ None }
+        requires built { AllByRecursion (λ line. IsBuilt line.call) lines.now }
+        ensures found { IsFound lines.now self.new.place }
+        ensures stands { Stands lines.now (history_of volume.new) self.new }
+        ensures number { number_of self.new ≡ number_of self.old }
+        ensures added { AddsAtMostOne (number_of self.old) (history_of volume.old) (history_of volume.new) }
+        ensures room { room_of volume.new + length (history_of volume.new) ≡ room_of volume.old + length (history_of volume.old) }
+        ensures answered { AreAnswered (call_at (calls_in lines.now)) (told_of volume.old) (history_of volume.old)
+            → AreAnswered (call_at (calls_in lines.now)) (told_of volume.new) (history_of volume.new) }
+        ensures moments { AllByRecursion (λ entry. entry.at ≡ at) (history_of volume.old) → AllByRecursion (λ entry. entry.at ≡ at) (history_of volume.new) }
+        ensures synced { synced_count (call_at (calls_in lines.now)) (history_of volume.old) ≤ committed_of volume.old
+            → synced_count (call_at (calls_in lines.now)) (history_of volume.new) ≤ committed_of volume.new }
+        ensures unspoilt { spoilt_of volume.new ≡ None }
+        ensures origin { origin_of volume.new ≡ origin_of volume.old }
+    {
+        let line = &lines[self.place.line];
+        let progress = &mut self.progress;
+        match volume.event(alloc, line.actor, line.seq, at, &line.call, progress) {
+            Turn::More => {}
+            Turn::Answered => self.place.step(lines),
+        }
+    }
+
+    /// Makes one event of the call at its line, if it isn't at the end.
+    fn act<D: Disk, C: Clock>(
+        &mut self,
+        alloc: Global,
+        volume: &mut Volume<D>,
+        clock: &mut C,
+        lines: &[Line],
+    )
+        requires numbered { IsNumbered lines.now }
+        requires found { IsFound lines.now self.old.place }
+        requires stands { Stands lines.now (history_of volume.old) self.old }
+        requires room { calls_left lines.now self.old ≤ room_of volume.old }
+        requires unspoilt { spoilt_of volume.old ≡ None }
+        requires built { AllByRecursion (λ line. IsBuilt line.call) lines.now }
+        ensures found { IsFound lines.now self.new.place }
+        ensures stands { Stands lines.now (history_of volume.new) self.new }
+        ensures number { number_of self.new ≡ number_of self.old }
+        ensures added { AddsAtMostOne (number_of self.old) (history_of volume.old) (history_of volume.new) }
+        ensures room { room_of volume.new + length (history_of volume.new) ≡ room_of volume.old + length (history_of volume.old) }
+        ensures answered { AreAnswered (call_at (calls_in lines.now)) (told_of volume.old) (history_of volume.old)
+            → AreAnswered (call_at (calls_in lines.now)) (told_of volume.new) (history_of volume.new) }
+        ensures moments { IsTrue (C.means clock.old).tells → AllByRecursion (λ entry. entry.at ≡ (C.means clock.old).moment) (history_of volume.old)
+            → AllByRecursion (λ entry. entry.at ≡ (C.means clock.old).moment) (history_of volume.new) }
+        ensures synced { synced_count (call_at (calls_in lines.now)) (history_of volume.old) ≤ committed_of volume.old
+            → synced_count (call_at (calls_in lines.now)) (history_of volume.new) ≤ committed_of volume.new }
+        ensures unspoilt { spoilt_of volume.new ≡ None }
+        ensures origin { origin_of volume.new ≡ origin_of volume.old }
+        ensures clock { C.means clock.new ≡ C.means clock.old }
+    {
+        if self.place.line < lines.len() {
+            let at = self.moment(clock);
+            self.event(alloc, volume, at, lines);
+        }
+    }
+
+    fn turned(&self, lines: &[Line]) -> ActorTurn
+        ensures { (result ≡ Through) ↔ (length lines.now ≤ self.now.place.line) }
+    {
+        if self.place.line < lines.len() {
+            ActorTurn::More
+        } else {
+            ActorTurn::Through
+        }
+    }
+
+    /// Makes one event of its next call, if one is left.
+    pub fn turn<D: Disk, C: Clock>(
+        &mut self,
+        alloc: Global,
+        volume: &mut Volume<D>,
+        clock: &mut C,
+        script: &Script,
+    ) -> ActorTurn
+        requires stands { Stands script.now.calls (history_of volume.old) self.old }
+        requires room { calls_left script.now.calls self.old ≤ room_of volume.old }
+        requires unspoilt { spoilt_of volume.old ≡ None }
+        requires built { AllByRecursion (λ line. IsBuilt line.call) script.now.calls }
+        ensures through { (result ≡ Through) ↔ IsThrough script.now.calls (history_of volume.new) (number_of self.old) }
+        ensures stands { Stands script.now.calls (history_of volume.new) self.new }
+        ensures number { number_of self.new ≡ number_of self.old }
+
+        // At most the one entry of its next call comes.
+        ensures added { AddsAtMostOne (number_of self.old) (history_of volume.old) (history_of volume.new) }
+        ensures room { room_of volume.new + length (history_of volume.new) ≡ room_of volume.old + length (history_of volume.old) }
+        ensures answered { AreAnswered (call_at (calls_in script.now.calls)) (told_of volume.old) (history_of volume.old)
+            → AreAnswered (call_at (calls_in script.now.calls)) (told_of volume.new) (history_of volume.new) }
+        ensures moments { IsTrue (C.means clock.old).tells → AllByRecursion (λ entry. entry.at ≡ (C.means clock.old).moment) (history_of volume.old)
+            → AllByRecursion (λ entry. entry.at ≡ (C.means clock.old).moment) (history_of volume.new) }
+        ensures synced { synced_count (call_at (calls_in script.now.calls)) (history_of volume.old) ≤ committed_of volume.old
+            → synced_count (call_at (calls_in script.now.calls)) (history_of volume.new) ≤ committed_of volume.new }
+        ensures unspoilt { spoilt_of volume.new ≡ None }
+        ensures origin { origin_of volume.new ≡ origin_of volume.old }
+        ensures clock { C.means clock.new ≡ C.means clock.old }
+    {
+        let lines = script.calls.items();
+        self.place.seek(lines);
+        self.act(alloc, volume, clock, lines);
+        self.turned(lines)
+    }
+}
