@@ -1,5 +1,5 @@
 -- The first data block that is left to strip, looked for behind one up to which nothing is.
-use Rattle.std.proofs.Common.{◌≡◌, ℕ, ◌<◌, ◌≤◌, Bool, true, false, cond, ◌&&◌, List, [], ◌∷◌, ◌++◌, filter, find, inl, inr, ◌⊎◌, Option, Some, None, IfSome, IsSome, is_some, nat_lt, if◌then◌else◌, refl, sym, ap, subst, ◌∙◌, arith}
+use Rattle.std.proofs.Common.{◌≡◌, ℕ, ◌<◌, ◌≤◌, Bool, true, false, cond, List, [], ◌∷◌, ◌++◌, filter, find, inl, inr, Option, Some, None, IfSome, is_some, nat_lt, if◌then◌else◌, refl, sym, ap, subst, ◌∙◌, arith}
 use Rattle.std.specs.Option.{option_map, option_or}
 use Rattle.std.specs.List.{AllByRecursion}
 use Rattle.std.specs.FinMap as map
@@ -7,7 +7,7 @@ use Rattle.std.proofs.lemmas.Bool.{and_from, cases_lt, true≢false}
 use Rattle.std.proofs.lemmas.Bool.Decides.{nat_tests}
 use Rattle.ck_model.specs.declared.key.Key.{Key}
 use Rattle.ck_model.specs.Table.{Table, IsTable, column, keys_in, newer}
-use Rattle.ck_model.specs.Chain.{is_live, keeps_data}
+use Rattle.ck_model.specs.Chain.{is_live}
 use Rattle.ck_model.proofs.CaseLaws.{and_left, none_some, some_is}
 use Rattle.ck_chain.specs.Needless.{in_between}
 use Rattle.ck_chain.specs.Order.{is_behind}
