@@ -1,7 +1,9 @@
-use Rattle.std.proofs.Common.{refl}
+use Rattle.std.proofs.Common.{ℕ, refl, sym, subst}
 use Rattle.ck_files.specs.Plain.{IsOurs}
 use Rattle.ck_disk.specs.Runs.{OnlyReads}
 use Rattle.ck_slots.specs.Slots.{table_in}
+use Rattle.ck_engine.specs.Opened.{IsFound}
+use Rattle.ck_engine.specs.Recovery.{BadFormat, Damaged}
 use Rattle.ck_engine.proofs.OpenLemmas.{plain_built, volume-opened, refused_format, refused_slot}
 use Rattle.ck_engine.proofs.engine.Engine.open_in.Goals as goal
 
@@ -24,13 +26,15 @@ returns-in-Err-BadFormat-clause-fault g c =
     let d = c.open.ensures.device in
     let reads : OnlyReads (g.D.Disk.means c.args.disk) (g.D.Disk.means c.open.new.disk) = record { shows = d.shows; crash = d.crash; marks = d.marks; step = d.step } in
     let arm = c.in-Err-BadFormat in
-    refused_format c.args.region (g.D.Disk.means c.args.disk) (g.D.Disk.means c.open.new.disk) (g.met.D.Disk.lawful c.args.disk) reads c.requires.found c.requires.settled
-    arm.field-0 arm.ensures.refused _ arm.field-0-is
+    subst (λ v. IsFound (g.D.Disk.means c.args.disk) (g.D.Disk.means c.open.new.disk) (BadFormat v)) (sym arm.version-is)
+    (refused_format c.args.region (g.D.Disk.means c.args.disk) (g.D.Disk.means c.open.new.disk) (g.met.D.Disk.lawful c.args.disk) reads c.requires.found c.requires.settled
+    arm.field-0 arm.ensures.refused arm.version arm.field-0-is)
 
 pub returns-in-Err-Damaged-clause-fault : goal.returns-in-Err-Damaged-clause-fault
 returns-in-Err-Damaged-clause-fault g c =
     let d = c.open.ensures.device in
     let reads : OnlyReads (g.D.Disk.means c.args.disk) (g.D.Disk.means c.open.new.disk) = record { shows = d.shows; crash = d.crash; marks = d.marks; step = d.step } in
     let arm = c.in-Err-Damaged in
-    refused_slot c.args.region (g.D.Disk.means c.args.disk) (g.D.Disk.means c.open.new.disk) (g.met.D.Disk.lawful c.args.disk) reads c.requires.found c.requires.settled
-    arm.field-0 arm.ensures.refused _ _ arm.field-0-is
+    subst (λ (at : ℕ × ℕ). IsFound (g.D.Disk.means c.args.disk) (g.D.Disk.means c.open.new.disk) (Damaged at.0 at.1)) (λ i. (sym arm.block-is i, sym arm.slot-is i))
+    (refused_slot c.args.region (g.D.Disk.means c.args.disk) (g.D.Disk.means c.open.new.disk) (g.met.D.Disk.lawful c.args.disk) reads c.requires.found c.requires.settled
+    arm.field-0 arm.ensures.refused arm.block arm.slot arm.field-0-is)
