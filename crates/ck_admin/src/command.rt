@@ -17,10 +17,10 @@ ghost use Rattle.ck_admin.specs.Statuses.{play_status};
 ghost use Rattle.ck_admin.specs.Top.{is_usage, is_play, leaves_device, IsUntouched, EndsPlay, EndsMkfs};
 
 use crate::mkfs::mkfs;
-use crate::volume::open;
-use crate::session::play_and_commit;
 use crate::print::print;
 use crate::read::read;
+use crate::session::play_and_commit;
+use crate::volume::open;
 use ck_disk::Disk;
 use ck_io::{Clock, Sink, Source};
 use ck_report::{Status, fault_line};

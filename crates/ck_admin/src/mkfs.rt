@@ -4,8 +4,8 @@ ghost use Rattle.ck_admin.specs.Play.{IsLater};
 ghost use Rattle.ck_admin.specs.Top.{EndsMkfs};
 
 use crate::command::Ended;
-use crate::volume::not_opened;
 use crate::refusal::bad_size;
+use crate::volume::not_opened;
 use ck_disk::Disk;
 use ck_engine::FormatFault;
 use ck_report::Status;

@@ -8,8 +8,8 @@ ghost use Rattle.ck_plain.specs.Answered.{reply_of};
 ghost use Rattle.ck_plain.specs.Outcome.{outcome_with};
 
 use crate::frozen::find_id;
-use crate::space::keeps_files;
 use crate::ids::id_named;
+use crate::space::keeps_files;
 use crate::{Answer, Plain, PlainCheckpoint, names_listed, range_read};
 use ck_model::{NameBytes, NoMemory, Path, Reply};
 

@@ -1,3 +1,4 @@
+pub mod Extents
 pub mod Gone
 pub mod Removal
 pub mod Unseen

@@ -20,9 +20,9 @@ ghost use Rattle.ck_slots.specs.Order.{numbers_in};
 ghost use Rattle.ck_slots.specs.Lawful.{table_of, IsTable-prop};
 ghost use Rattle.ck_slots.specs.Written.{slots_of};
 
-use crate::maps::{counters_from, entries_from, filesets_from};
 use crate::entries::Entries;
 use crate::filesets::{look, next_id, set, unset};
+use crate::maps::{counters_from, entries_from, filesets_from};
 use crate::opened::{OpenSlots, check_slots, read_slots};
 use crate::written::{push_named, spell_blocks};
 use ck_disk::Disk;

@@ -6,8 +6,8 @@ ghost use Rattle.ck_stream.specs.Parsed.{Finds, items_at, stream_at};
 ghost use Rattle.ck_stream.specs.Seen.{summary_of, TellsOf, seen, counted, seen_at};
 
 use crate::header::is_full;
-use crate::passed::pass_record;
 use crate::parsed::{byte_of, digest_of, end_in, fault_at, header_in};
+use crate::passed::pass_record;
 use crate::{StreamFault, Summary};
 
 /// How many records there are up to the end's tag, and the bytes behind that tag.

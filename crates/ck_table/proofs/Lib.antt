@@ -3,4 +3,4 @@ pub mod NameLemmas
 pub mod WithoutLaws
 pub mod Sound
 pub mod AddLemmas
-pub mod LeaveLemmas
+pub mod LeaveLaws

@@ -7,12 +7,12 @@ ghost use Rattle.ck_tree.specs.declared.fault.TreeFault.TheVariants as fault;
 ghost use Rattle.ck_tree.specs.Plan.{IsPlan, IsRefusal, making};
 ghost use Rattle.ck_model.specs.FileCalls.{IsChanging};
 
-use crate::numbers::draw;
+use crate::deletions::delete_file;
+use crate::directory::has_names;
 use crate::fault::TreeFault;
 use crate::lookup::{find_directory, find_file, find_name, find_new_name};
-use crate::directory::has_names;
 use crate::nodes::size_at;
-use crate::deletions::delete_file;
+use crate::numbers::draw;
 use crate::sizes::resize;
 use crate::writes::write_bytes;
 use ck_model::{Call, Change, FILE_LIMIT, Key, Meta, Path, Small};

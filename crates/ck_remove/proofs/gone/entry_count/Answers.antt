@@ -1,5 +1,5 @@
 use Rattle.std.proofs.Common.{arith}
-use Rattle.ck_remove.proofs.LeftLaws.{few_entries}
+use Rattle.ck_remove.proofs.LeftLemmas.{few_entries}
 use Rattle.ck_remove.proofs.gone.entry_count.Goals as goal
 
 pub overflow_add-count : goal.overflow_add-count

@@ -1,6 +1,6 @@
 use Rattle.std.proofs.Common.{Bool, ◌+◌, if◌then◌else◌, sym, ap, ◌∙◌, arith}
 use Rattle.ck_remove.specs.Gone.{entry_count, left_in}
-use Rattle.ck_remove.proofs.LeftLaws.{few_entries, few_left}
+use Rattle.ck_remove.proofs.LeftLemmas.{few_entries, few_left}
 use Rattle.ck_remove.proofs.gone.left.Goals as goal
 
 pub overflow_add-count : goal.overflow_add-count

@@ -1,6 +1,6 @@
 use Rattle.std.proofs.Common.{true, ◌≡◌, IfSome, sym, subst, ◌∙◌}
 use Rattle.ck_model.specs.Chain.{is_gone}
-use Rattle.ck_remove.proofs.OldestLaws.{none_gone, oldest_is_gone}
+use Rattle.ck_remove.proofs.OldestLemmas.{none_gone, oldest_is_gone}
 use Rattle.ck_remove.proofs.gone.work.Goals as goal
 
 pub returns-in_err-id-clause-none : goal.returns-in_err-id-clause-none

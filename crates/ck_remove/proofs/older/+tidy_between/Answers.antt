@@ -1,7 +1,7 @@
 use Rattle.std.proofs.Common.{◌≤◌, sym, ap, arith}
 use Rattle.std.proofs.lemmas.Bool.Decides.{nat_tests}
 use Rattle.ck_remove.specs.Removal.{tidied_each}
-use Rattle.ck_remove.proofs.OlderLaws.{none_at}
+use Rattle.ck_remove.proofs.OlderLemmas.{none_at}
 use Rattle.ck_remove.proofs.older.+tidy_between.Goals as goal
 
 pub returns-else-id-end-clause-tidied : goal.returns-else-id-end-clause-tidied

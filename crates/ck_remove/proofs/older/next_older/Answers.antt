@@ -1,7 +1,7 @@
 use Rattle.std.proofs.Common.{◌≤◌, sym, ap, ◌∙◌, arith}
 use Rattle.std.specs.Option.{option_or}
 use Rattle.std.proofs.lemmas.Bool.Decides.{nat_tests}
-use Rattle.ck_remove.proofs.OlderLaws.{none_next}
+use Rattle.ck_remove.proofs.OlderLemmas.{none_next}
 use Rattle.ck_remove.proofs.older.next_older.Goals as goal
 
 pub returns-then-id-fs : goal.returns-then-id-fs

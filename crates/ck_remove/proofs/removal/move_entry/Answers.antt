@@ -1,6 +1,6 @@
 use Rattle.std.proofs.Common.{◌<◌, inr, sym, subst}
 use Rattle.ck_model.specs.Table.{spare_count}
-use Rattle.ck_remove.proofs.RoomLaws.{room_after}
+use Rattle.ck_remove.proofs.RoomLemmas.{room_after}
 use Rattle.ck_remove.proofs.removal.move_entry.Goals as goal
 
 pub put-requires-clause-room : goal.put-requires-clause-room

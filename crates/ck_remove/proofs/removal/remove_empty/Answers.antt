@@ -3,8 +3,8 @@ use Rattle.ck_model.specs.Table.{record_count}
 use Rattle.ck_model.specs.Chain.{seen}
 use Rattle.ck_remove.specs.Gone.{left_of}
 use Rattle.ck_remove.specs.Unseen.{IsUnseen}
-use Rattle.ck_remove.proofs.LeftLaws.{left_unlinked}
-use Rattle.ck_remove.proofs.UnseenLaws.{unseen_unlinked}
+use Rattle.ck_remove.proofs.LeftLemmas.{left_unlinked}
+use Rattle.ck_remove.proofs.UnseenLemmas.{unseen_unlinked}
 use Rattle.ck_remove.proofs.removal.remove_empty.Goals as goal
 
 pub returns-clause-unseen : goal.returns-clause-unseen

@@ -6,12 +6,12 @@ use Rattle.ck_model.proofs.CaseLaws.{some_is}
 use Rattle.ck_remove.specs.Gone.{left_of}
 use Rattle.ck_remove.specs.Removal.{moved, released, taken_of, with_taken, without}
 use Rattle.ck_remove.specs.Unseen.{IsUnseen}
-use Rattle.ck_remove.proofs.OldestLaws.{oldest_is}
-use Rattle.ck_remove.proofs.MoveLaws.{orderly_moved}
-use Rattle.ck_remove.proofs.SoundLaws.{sound_without}
-use Rattle.ck_remove.proofs.FreeLaws.{without_freed}
-use Rattle.ck_remove.proofs.LeftLaws.{left_without}
-use Rattle.ck_remove.proofs.UnseenLaws.{unseen_without}
+use Rattle.ck_remove.proofs.OldestLemmas.{oldest_is}
+use Rattle.ck_remove.proofs.MoveLemmas.{orderly_moved}
+use Rattle.ck_remove.proofs.SoundLemmas.{sound_without}
+use Rattle.ck_remove.proofs.FreedLemmas.{without_freed}
+use Rattle.ck_remove.proofs.LeftLemmas.{left_without}
+use Rattle.ck_remove.proofs.UnseenLemmas.{unseen_without}
 use Rattle.ck_remove.proofs.removal.remove_entry.Goals as goal
 
 pub tidy_between-requires : goal.tidy_between-requires

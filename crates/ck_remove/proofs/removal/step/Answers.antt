@@ -1,5 +1,5 @@
 use Rattle.std.proofs.Common.{◌∙◌}
-use Rattle.ck_remove.proofs.OldestLaws.{first_held, none_held, oldest_is, work_parts}
+use Rattle.ck_remove.proofs.OldestLemmas.{first_held, none_held, oldest_is, work_parts}
 use Rattle.ck_remove.proofs.removal.step.Goals as goal
 
 pub remove_entry-requires-clause-held : goal.remove_entry-requires-clause-held

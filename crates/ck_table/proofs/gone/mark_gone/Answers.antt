@@ -4,7 +4,7 @@ use Rattle.ck_model.specs.Table.{IsTable, record_count, with_fileset}
 use Rattle.ck_model.specs.Chain.{keeps_data, live_ids, value_of, seen}
 use Rattle.ck_model.specs.Rules.{IsSound}
 use Rattle.ck_table.specs.Gone.{as_gone}
-use Rattle.ck_table.proofs.LeaveLemmas.{sound-with_gone, live_ids-with_gone, value-with_gone, seen-with_gone, keeps-with_gone, record_count-with_gone}
+use Rattle.ck_table.proofs.LeaveLaws.{sound-with_gone, live_ids-with_gone, value-with_gone, seen-with_gone, keeps-with_gone, record_count-with_gone}
 use Rattle.ck_table.proofs.gone.mark_gone.Goals as goal
 
 pub returns-clause-sound : goal.returns-clause-sound

@@ -2,7 +2,7 @@ use Rattle.std.proofs.Common.{◌+◌, sym, ap, subst, ◌∙◌}
 use Rattle.ck_model.specs.Table.{record_count}
 use Rattle.ck_model.specs.Chain.{live_ids, value_of, seen}
 use Rattle.ck_model.specs.Rules.{IsSound}
-use Rattle.ck_table.proofs.LeaveLemmas.{sound-unlinked, live_ids-unlinked, value-unlinked, seen-unlinked, record_count-unlinked}
+use Rattle.ck_table.proofs.LeaveLaws.{sound-unlinked, live_ids-unlinked, value-unlinked, seen-unlinked, record_count-unlinked}
 use Rattle.ck_table.proofs.gone.unlink.Goals as goal
 
 pub returns-clause-sound : goal.returns-clause-sound

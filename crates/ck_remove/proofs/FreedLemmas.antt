@@ -11,9 +11,9 @@ use Rattle.ck_model.proofs.CaseLaws.{none_some}
 use Rattle.ck_chain.proofs.PushedLaws.{block_pushed}
 use Rattle.ck_chain.proofs.NameLaws.{named_else, named_entry, named_here, named_without, named_written}
 use Rattle.ck_remove.specs.Removal.{moved, older, released, taken_of, unless_kept, without}
-use Rattle.ck_remove.proofs.OlderLaws.{IsNextOlder, taken_cases}
-use Rattle.ck_remove.proofs.EachLaws.{each_named, named_each}
-use Rattle.ck_remove.proofs.MoveLaws.{after, elsewhere}
+use Rattle.ck_remove.proofs.OlderLemmas.{IsNextOlder, taken_cases}
+use Rattle.ck_remove.proofs.EachLemmas.{each_named, named_each}
+use Rattle.ck_remove.proofs.MoveLemmas.{after, elsewhere}
 
 named_before : (t : Table) (g : ℕ) (key : Key) (block : ℕ) → IsNamed (with_entry t g key None) block → IsNamed t block
 named_before t g key block named = elim (named_written t g key None block named) [ inl was ↦ was | inr none ↦ absurd (none_some block none) ]

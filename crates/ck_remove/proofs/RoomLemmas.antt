@@ -9,7 +9,7 @@ use Rattle.ck_chain.proofs.CountLaws.{record_count-with_entry}
 use Rattle.ck_chain.specs.Named.{one_of}
 use Rattle.ck_chain.proofs.PushedLaws.{entry_pushed}
 use Rattle.ck_remove.specs.Removal.{taken_of}
-use Rattle.ck_remove.proofs.OlderLaws.{taken_cases}
+use Rattle.ck_remove.proofs.OlderLemmas.{taken_cases}
 
 -- a record is free once an entry is away
 pub room_after : (t : Table) (fs : ℕ) (key : Key) → IsSized t → IsSome (column t key fs) → 0 < spare_count (with_entry t fs key None)

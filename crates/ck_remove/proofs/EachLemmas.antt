@@ -16,7 +16,7 @@ use Rattle.ck_chain.proofs.HolderLaws.{needed_here, needed_tidied, orderly_tidie
 use Rattle.ck_chain.proofs.TidyLaws.{column-tidied, tidied_primary, tidied_reads, tidied_shrinks}
 use Rattle.ck_chain.proofs.NameLaws.{named_before_tidied, named_tidied}
 use Rattle.ck_remove.specs.Removal.{tidied_each}
-use Rattle.ck_remove.proofs.Lists.{all_map}
+use Rattle.ck_remove.proofs.ListLemmas.{all_map}
 
 -- none of these is gone
 abbrev pub AllLive : Table → List ℕ → Type 0

@@ -26,11 +26,11 @@ use Rattle.ck_table.proofs.IdLaws.{is_other, get-recorded_other}
 use Rattle.ck_table.proofs.WithoutLaws.{newer-without}
 use Rattle.ck_remove.specs.Gone.{entry_count, left_at, left_in, left_of}
 use Rattle.ck_remove.specs.Removal.{moved, older, without}
-use Rattle.ck_remove.proofs.Lists.{all_below, all_map}
-use Rattle.ck_remove.proofs.OldestLaws.{IsOldest, gone_not_live, gone_stands}
-use Rattle.ck_remove.proofs.OlderLaws.{older_live}
-use Rattle.ck_remove.proofs.EachLaws.{each_column}
-use Rattle.ck_remove.proofs.MoveLaws.{moved_away, moved_elsewhere, moved_other}
+use Rattle.ck_remove.proofs.ListLemmas.{all_below, all_map}
+use Rattle.ck_remove.proofs.OldestLemmas.{IsOldest, gone_not_live, gone_stands}
+use Rattle.ck_remove.proofs.OlderLemmas.{older_live}
+use Rattle.ck_remove.proofs.EachLemmas.{each_column}
+use Rattle.ck_remove.proofs.MoveLemmas.{moved_away, moved_elsewhere, moved_other}
 
 -- ---- one fileset's entries
 

@@ -13,12 +13,12 @@ use Rattle.ck_chain.proofs.OrderlyLaws.{positive_id}
 use Rattle.ck_table.proofs.IdLaws.{get-recorded, get-recorded_other}
 use Rattle.ck_remove.specs.Removal.{moved, older, without}
 use Rattle.ck_remove.specs.Unseen.{IsUnseen}
-use Rattle.ck_remove.proofs.OldestLaws.{IsOldest}
-use Rattle.ck_remove.proofs.OlderLaws.{older_live}
-use Rattle.ck_remove.proofs.EachLaws.{IdsPositive, each_named, each_primary, each_seen, each_shrinks}
-use Rattle.ck_remove.proofs.MoveLaws.{moved_elsewhere, moved_seen, moved_shrinks}
-use Rattle.ck_remove.proofs.FreeLaws.{moved_named}
-use Rattle.ck_remove.proofs.ExtentLaws.{without_extent_count}
+use Rattle.ck_remove.proofs.OldestLemmas.{IsOldest}
+use Rattle.ck_remove.proofs.OlderLemmas.{older_live}
+use Rattle.ck_remove.proofs.EachLemmas.{IdsPositive, each_named, each_primary, each_seen, each_shrinks}
+use Rattle.ck_remove.proofs.MoveLemmas.{moved_elsewhere, moved_seen, moved_shrinks}
+use Rattle.ck_remove.proofs.FreedLemmas.{moved_named}
+use Rattle.ck_remove.proofs.ExtentLemmas.{without_extent_count}
 
 -- an entry is removed
 pub unseen_without : (t : Table) (g : ℕ) (key : Key) (h : Held) → IsTable t → IsOldest t g → column t key g ≡ Some h → IsUnseen t (without t g (Some key))

@@ -18,8 +18,8 @@ use Rattle.ck_chain.proofs.ReadLaws.{same_first, each_above, hidden_reads, moved
 use Rattle.ck_chain.proofs.PushedLaws.{fits_moved}
 use Rattle.ck_chain.proofs.OrderlyLaws.{orderly_with, orderly_without, positive_id}
 use Rattle.ck_remove.specs.Removal.{moved, next_older, with_taken}
-use Rattle.ck_remove.proofs.OldestLaws.{IsOldest}
-use Rattle.ck_remove.proofs.OlderLaws.{IsNextOlder, live_place, next_at_least, next_newer, taken_cases}
+use Rattle.ck_remove.proofs.OldestLemmas.{IsOldest}
+use Rattle.ck_remove.proofs.OlderLemmas.{IsNextOlder, live_place, next_at_least, next_newer, taken_cases}
 
 -- the table once the entry is away and this is taken over
 abbrev pub after : Table → ℕ → Key → Option (ℕ × Held) → Table

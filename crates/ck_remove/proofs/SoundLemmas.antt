@@ -14,10 +14,10 @@ use Rattle.ck_chain.specs.Needless.{Says}
 use Rattle.ck_chain.proofs.ReadLaws.{each_above, live_stands}
 use Rattle.ck_chain.proofs.OrderlyLaws.{positive_id}
 use Rattle.ck_remove.specs.Removal.{moved, older, without}
-use Rattle.ck_remove.proofs.OldestLaws.{IsOldest}
-use Rattle.ck_remove.proofs.OlderLaws.{live_place, older_has, older_live}
-use Rattle.ck_remove.proofs.EachLaws.{IdsPositive, NeededAt, each_here, each_needed, each_orderly}
-use Rattle.ck_remove.proofs.MoveLaws.{moved_elsewhere, moved_other, orderly_moved}
+use Rattle.ck_remove.proofs.OldestLemmas.{IsOldest}
+use Rattle.ck_remove.proofs.OlderLemmas.{live_place, older_has, older_live}
+use Rattle.ck_remove.proofs.EachLemmas.{IdsPositive, NeededAt, each_here, each_needed, each_orderly}
+use Rattle.ck_remove.proofs.MoveLemmas.{moved_elsewhere, moved_other, orderly_moved}
 
 -- an absent at any other key is needed as it was
 needed_other : (t : Table) (g : ℕ) (key : Key) (h : Held) → IsTable t → IsSound t → column t key g ≡ Some h

@@ -16,8 +16,8 @@ use Rattle.ck_chain.proofs.ReadLaws.{last_passes, live_stands}
 use Rattle.ck_chain.proofs.OrderlyLaws.{positive_id}
 use Rattle.ck_table.proofs.IdLaws.{newer-has}
 use Rattle.ck_remove.specs.Removal.{is_older, older, next_older, taken_into, taken_of}
-use Rattle.ck_remove.proofs.Lists.{all_at, all_filter, filter_none, filter_outside}
-use Rattle.ck_remove.proofs.OldestLaws.{IsOldest, gone_not_live, live_where_not_gone}
+use Rattle.ck_remove.proofs.ListLemmas.{all_at, all_filter, filter_none, filter_outside}
+use Rattle.ck_remove.proofs.OldestLemmas.{IsOldest, gone_not_live, live_where_not_gone}
 
 -- the last that passes, of a list whose end has one
 last-append : (test : ℕ → Bool) (xs zs : List ℕ) (m : ℕ) → last_of test zs ≡ Some m → last_of test (xs ++ zs) ≡ Some m
