@@ -10,3 +10,4 @@ pub mod ExtentLaws
 pub mod ExtentLemmas
 pub mod UnseenLemmas
 pub mod RoomLemmas
+pub mod WorldLaws

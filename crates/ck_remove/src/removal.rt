@@ -4,6 +4,9 @@ ghost use Rattle.ck_model.specs.Held.{IsEntry};
 ghost use Rattle.ck_model.specs.Table.{column, with_entry};
 ghost use Rattle.ck_model.specs.Chain.{is_gone};
 ghost use Rattle.ck_model.specs.Rules.{IsSound};
+ghost use Rattle.ck_model.specs.TableWorld.{world_on};
+ghost use Rattle.ck_model.specs.Values.{Store};
+ghost use Rattle.ck_model.specs.World.{Mounts};
 ghost use Rattle.ck_chain.specs.Kept.{pushed};
 ghost use Rattle.ck_chain.specs.Named.{block_of};
 ghost use Rattle.ck_remove.specs.Gone.{left_of, oldest_gone, work_of};
@@ -119,6 +122,9 @@ pub fn step<M: Meta>(meta: &mut M, item: GoneEntry) -> Freed
     requires work { work_of (M.table meta.old) ≡ Some item }
     requires sound { IsSound (M.table meta.old) }
     ensures table { M.table meta.new ≡ stepped (M.table meta.old) item }
+    // The table stands for the same world, whatever its data blocks hold.
+    ensures world { (store : Store) (mounts : Mounts) →
+        world_on store mounts (M.table meta.new) ≡ world_on store mounts (M.table meta.old) }
     ensures unseen { IsUnseen (M.table meta.old) (M.table meta.new) }
     ensures sound { IsSound (M.table meta.new) }
     ensures freed { IsFreed (M.table meta.old) (M.table meta.new) result }

@@ -11,7 +11,7 @@ pub returns-clause-unseen : goal.returns-clause-unseen
 returns-clause-unseen g c =
     let t = g.M.Meta.table c.args.meta.now in
     let same = c.unlink.ensures.table in
-    subst (IsUnseen t) (sym same) (unseen_unlinked t c.args.fs c.requires.gone
+    subst (IsUnseen t) (sym same) (unseen_unlinked t c.args.fs c.requires.gone c.requires.empty
     (λ fs key. sym (ap (λ u. seen u fs key) same) ∙ c.unlink.ensures.kept fs key)
     (sym (ap (λ u. record_count u + 1) same) ∙ c.unlink.ensures.count))
 

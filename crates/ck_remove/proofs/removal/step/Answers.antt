@@ -1,5 +1,6 @@
 use Rattle.std.proofs.Common.{◌∙◌}
 use Rattle.ck_remove.proofs.OldestLemmas.{first_held, none_held, oldest_is, work_parts}
+use Rattle.ck_remove.proofs.WorldLaws.{unseen_world}
 use Rattle.ck_remove.proofs.removal.step.Goals as goal
 
 pub remove_entry-requires-clause-held : goal.remove_entry-requires-clause-held
@@ -19,3 +20,15 @@ remove_empty-requires-clause-empty g c =
     let t = g.M.Meta.table c.args.meta.now in
     let work = work_parts t c.args.item c.requires.work in
     (none_held t c.args.item.id (work.least ∙ c.in-None.is)).1
+
+pub returns-in-Some-clause-world : goal.returns-in-Some-clause-world
+returns-in-Some-clause-world g c =
+    let before = c.args.meta.now in
+    let after = c.remove_entry.new.meta in
+    unseen_world (g.M.Meta.table before) (g.M.Meta.table after) (g.met.M.Meta.lawful before) (g.met.M.Meta.lawful after) c.remove_entry.ensures.unseen
+
+pub returns-in-None-clause-world : goal.returns-in-None-clause-world
+returns-in-None-clause-world g c =
+    let before = c.args.meta.now in
+    let after = c.remove_empty.new.meta in
+    unseen_world (g.M.Meta.table before) (g.M.Meta.table after) (g.met.M.Meta.lawful before) (g.met.M.Meta.lawful after) c.remove_empty.ensures.unseen

@@ -1,0 +1,6 @@
+pub mod MarkLemmas
+pub mod CountLemmas
+pub mod WorkLemmas
+pub mod StripLemmas
+pub mod PlaceLemmas
+pub mod StrippedLaws

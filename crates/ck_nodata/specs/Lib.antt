@@ -1,0 +1,2 @@
+pub mod StripItem
+pub mod Stripped

@@ -1,0 +1,5 @@
+pub mod MapLemmas
+pub mod PartLemmas
+pub mod ProgressLaws
+pub mod StandingLemmas
+pub mod ReplyLaws

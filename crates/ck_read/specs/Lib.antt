@@ -1,0 +1,4 @@
+pub mod Block
+pub mod Progress
+pub mod ReadTurn
+pub mod StartFault

@@ -1,0 +1,2 @@
+pub mod Removable
+pub mod Room

@@ -1,0 +1,7 @@
+mod EntriesLemmas
+mod NewestLemmas
+mod TidiedLemmas
+mod FreedLemmas
+mod UnlinkedLemmas
+mod PromotedLemmas
+mod RestoredLemmas

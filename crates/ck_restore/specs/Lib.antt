@@ -1,0 +1,4 @@
+pub mod Entries
+pub mod Freed
+pub mod Older
+pub mod Promoted
