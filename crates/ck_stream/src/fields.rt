@@ -46,7 +46,7 @@ pub fn run_of(count: usize, bytes: &[u8]) -> Result<(&[u8], &[u8]), Flaw>
 }
 
 /// The index of a block, and the bytes behind it.
-#[tactic(auto, unfolding(crate::specs::Reading::index_at))]
+#[tactic(auto, unfolding(crate::specs::Parsed::index_at))]
 pub fn index_of(bytes: &[u8]) -> Result<(u32, &[u8]), Flaw>
     ensures { Finds (λ x. (x.0, x.1.now)) result (index_at bytes.now) }
 {
@@ -58,7 +58,7 @@ pub fn index_of(bytes: &[u8]) -> Result<(u32, &[u8]), Flaw>
 }
 
 /// The size of a file, and the bytes behind it.
-#[tactic(auto, unfolding(crate::specs::Reading::size_at))]
+#[tactic(auto, unfolding(crate::specs::Parsed::size_at))]
 pub fn size_of(bytes: &[u8]) -> Result<(u64, &[u8]), Flaw>
     ensures { Finds (λ x. (x.0, x.1.now)) result (size_at bytes.now) }
 {
@@ -70,7 +70,7 @@ pub fn size_of(bytes: &[u8]) -> Result<(u64, &[u8]), Flaw>
 }
 
 /// As many bytes as the first one says, if a name may have so many, and the bytes behind them.
-#[tactic(auto, unfolding(crate::specs::Reading::counted_at))]
+#[tactic(auto, unfolding(crate::specs::Parsed::counted_at))]
 pub fn counted_of(bytes: &[u8]) -> Result<(&[u8], &[u8]), Flaw>
     ensures found { Finds (λ x. (x.0.now, x.1.now)) result (counted_at bytes.now) }
     ensures some { IfOk result (λ x. 1 ≤ length x.0.now) }
@@ -96,7 +96,7 @@ fn file_name(bytes: &[u8]) -> Option<NameBytes>
 }
 
 /// A name behind its length, and the bytes behind it.
-#[tactic(auto, unfolding(crate::specs::Reading::file_name_at))]
+#[tactic(auto, unfolding(crate::specs::Parsed::file_name_at))]
 pub fn name_of(bytes: &[u8]) -> Result<(NameBytes, &[u8]), Flaw>
     ensures { Reads (λ x. (x.0, x.1.now)) result (file_name_at bytes.now) }
 {

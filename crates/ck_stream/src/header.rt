@@ -6,7 +6,7 @@ use crate::fields::{run_of, u32_of};
 use crate::tag::Header;
 use crate::{Changed, Full, Items, Stream};
 
-#[tactic(auto, unfolding(crate::specs::Reading::id_at))]
+#[tactic(auto, unfolding(crate::specs::Parsed::id_at))]
 fn id_of(bytes: &[u8]) -> Result<(u32, &[u8]), Flaw>
     ensures { Finds (λ x. (x.0, x.1.now)) result (id_at bytes.now) }
 {
@@ -17,7 +17,7 @@ fn id_of(bytes: &[u8]) -> Result<(u32, &[u8]), Flaw>
     Ok((id, rest))
 }
 
-#[tactic(auto, unfolding(crate::specs::Reading::full_header_at))]
+#[tactic(auto, unfolding(crate::specs::Parsed::full_header_at))]
 fn full_header(bytes: &[u8]) -> Result<(Header, &[u8]), Flaw>
     ensures { Finds (λ x. (x.0, x.1.now)) result (full_header_at bytes.now) }
 {
@@ -25,7 +25,7 @@ fn full_header(bytes: &[u8]) -> Result<(Header, &[u8]), Flaw>
     Ok((Header::Full(id), rest))
 }
 
-#[tactic(auto, unfolding(crate::specs::Reading::changed_header_at))]
+#[tactic(auto, unfolding(crate::specs::Parsed::changed_header_at))]
 fn changed_header(bytes: &[u8]) -> Result<(Header, &[u8]), Flaw>
     ensures { Finds (λ x. (x.0, x.1.now)) result (changed_header_at bytes.now) }
 {
@@ -38,7 +38,7 @@ fn changed_header(bytes: &[u8]) -> Result<(Header, &[u8]), Flaw>
 }
 
 /// The header, and the bytes behind it.
-#[tactic(auto, unfolding(crate::specs::Reading::header_at))]
+#[tactic(auto, unfolding(crate::specs::Parsed::header_at))]
 pub fn header_of(bytes: &[u8]) -> Result<(Header, &[u8]), Flaw>
     ensures { Finds (λ x. (x.0, x.1.now)) result (header_at bytes.now) }
 {

@@ -91,7 +91,7 @@ fn digest_bytes(bytes: &[u8]) -> Result<([u8; 32], &[u8]), Flaw>
 }
 
 /// The digest that is kept behind the number of records, and the bytes behind it.
-#[tactic(auto, unfolding(crate::specs::Reading::end_at))]
+#[tactic(auto, unfolding(crate::specs::Parsed::end_at))]
 fn end_of(count: usize, bytes: &[u8]) -> Result<([u8; 32], &[u8]), Flaw>
     ensures { Finds (λ x. (x.0, x.1.now)) result (end_at count bytes.now) }
 {
@@ -124,7 +124,7 @@ pub fn end_in(total: usize, count: usize, bytes: &[u8]) -> Result<([u8; 32], &[u
     }
 }
 
-#[tactic(auto, unfolding(crate::specs::Reading::stream_at))]
+#[tactic(auto, unfolding(crate::specs::Parsed::stream_at))]
 fn stream_in(alloc: Global, bytes: &[u8], at: usize) -> Result<(Stream, usize), StreamFault>
     requires { at ≤ length bytes.now }
     ensures { Gives (λ x. x) result (stream_at bytes.now at) }

@@ -53,7 +53,7 @@ fn is_file_name(bytes: &[u8]) -> bool
 }
 
 /// A name where it stands behind its length, and the bytes behind it.
-#[tactic(auto, unfolding(crate::specs::Reading::file_name_at))]
+#[tactic(auto, unfolding(crate::specs::Parsed::file_name_at))]
 fn name_in(bytes: &[u8]) -> Result<(&[u8], &[u8]), Flaw>
     ensures { Finds (λ x. (x.0.now, x.1.now)) result (file_name_at bytes.now) }
 {
@@ -64,7 +64,7 @@ fn name_in(bytes: &[u8]) -> Result<(&[u8], &[u8]), Flaw>
     Ok((name, rest))
 }
 
-#[tactic(auto, unfolding(crate::specs::Reading::name_at))]
+#[tactic(auto, unfolding(crate::specs::Parsed::name_at))]
 fn name_key(bytes: &[u8]) -> Result<(SeenKey, &[u8]), Flaw>
     ensures { Finds (λ x. (key_seen x.0, x.1.now)) result (name_at bytes.now) }
 {
@@ -73,7 +73,7 @@ fn name_key(bytes: &[u8]) -> Result<(SeenKey, &[u8]), Flaw>
     Ok((SeenKey::Name(directory, name), rest))
 }
 
-#[tactic(auto, unfolding(crate::specs::Reading::node_at))]
+#[tactic(auto, unfolding(crate::specs::Parsed::node_at))]
 fn node_key(bytes: &[u8]) -> Result<(SeenKey, &[u8]), Flaw>
     ensures { Finds (λ x. (key_seen x.0, x.1.now)) result (node_at bytes.now) }
 {
@@ -81,7 +81,7 @@ fn node_key(bytes: &[u8]) -> Result<(SeenKey, &[u8]), Flaw>
     Ok((SeenKey::Node(node), rest))
 }
 
-#[tactic(auto, unfolding(crate::specs::Reading::block_at))]
+#[tactic(auto, unfolding(crate::specs::Parsed::block_at))]
 fn block_key(bytes: &[u8]) -> Result<(SeenKey, &[u8]), Flaw>
     ensures { Finds (λ x. (key_seen x.0, x.1.now)) result (block_at bytes.now) }
 {
@@ -90,7 +90,7 @@ fn block_key(bytes: &[u8]) -> Result<(SeenKey, &[u8]), Flaw>
     Ok((SeenKey::Block(node, index), rest))
 }
 
-#[tactic(auto, unfolding(crate::specs::Reading::key_at))]
+#[tactic(auto, unfolding(crate::specs::Parsed::key_at))]
 fn key_of(tag: Tag, bytes: &[u8]) -> Result<(SeenKey, &[u8]), Flaw>
     ensures { Finds (λ x. (key_seen x.0, x.1.now)) result (key_at tag bytes.now) }
 {
@@ -102,7 +102,7 @@ fn key_of(tag: Tag, bytes: &[u8]) -> Result<(SeenKey, &[u8]), Flaw>
 }
 
 /// The bytes behind what stands behind a key.
-#[tactic(auto, unfolding(crate::specs::Reading::item_at, crate::specs::Reading::named_at, crate::specs::Reading::file_at, crate::specs::Reading::bytes_at))]
+#[tactic(auto, unfolding(crate::specs::Parsed::item_at, crate::specs::Parsed::named_at, crate::specs::Parsed::file_at, crate::specs::Parsed::bytes_at))]
 fn behind_payload(tag: Tag, bytes: &[u8]) -> Result<&[u8], Flaw>
     ensures { (key : Key) → Finds (λ rest. (key, rest.now)) result (keyed (item_at tag key bytes.now)) }
 {
@@ -152,7 +152,7 @@ fn pass_behind<'a>(
 
 /// Passes over the record that begins with this tag, behind the tag: its key, and the bytes behind
 /// the record. It is checked as reading it does, and nothing is kept of it.
-#[tactic(auto, unfolding(crate::specs::Reading::record_at))]
+#[tactic(auto, unfolding(crate::specs::Parsed::record_at))]
 pub fn pass_record<'a>(
     full: bool,
     last: Option<SeenKey<'a>>,

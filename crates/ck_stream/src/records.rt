@@ -29,7 +29,7 @@ pub fn tag_of(full: bool, number: u8) -> Result<Tag, Flaw>
     }
 }
 
-#[tactic(auto, unfolding(crate::specs::Reading::name_at))]
+#[tactic(auto, unfolding(crate::specs::Parsed::name_at))]
 fn name_key(bytes: &[u8]) -> Result<(Key, &[u8]), Flaw>
     ensures { Reads (λ x. (x.0, x.1.now)) result (name_at bytes.now) }
 {
@@ -40,7 +40,7 @@ fn name_key(bytes: &[u8]) -> Result<(Key, &[u8]), Flaw>
     }
 }
 
-#[tactic(auto, unfolding(crate::specs::Reading::node_at))]
+#[tactic(auto, unfolding(crate::specs::Parsed::node_at))]
 fn node_key(bytes: &[u8]) -> Result<(Key, &[u8]), Flaw>
     ensures { Reads (λ x. (x.0, x.1.now)) result (node_at bytes.now) }
 {
@@ -48,7 +48,7 @@ fn node_key(bytes: &[u8]) -> Result<(Key, &[u8]), Flaw>
     Ok((Key::Node(node), rest))
 }
 
-#[tactic(auto, unfolding(crate::specs::Reading::block_at))]
+#[tactic(auto, unfolding(crate::specs::Parsed::block_at))]
 fn block_key(bytes: &[u8]) -> Result<(Key, &[u8]), Flaw>
     ensures { Reads (λ x. (x.0, x.1.now)) result (block_at bytes.now) }
 {
@@ -57,7 +57,7 @@ fn block_key(bytes: &[u8]) -> Result<(Key, &[u8]), Flaw>
     Ok((Key::Block(node, index), rest))
 }
 
-#[tactic(auto, unfolding(crate::specs::Reading::key_at))]
+#[tactic(auto, unfolding(crate::specs::Parsed::key_at))]
 fn key_of(tag: Tag, bytes: &[u8]) -> Result<(Key, &[u8]), Flaw>
     ensures { Reads (λ x. (x.0, x.1.now)) result (key_at tag bytes.now) }
 {
@@ -68,7 +68,7 @@ fn key_of(tag: Tag, bytes: &[u8]) -> Result<(Key, &[u8]), Flaw>
     }
 }
 
-#[tactic(auto, unfolding(crate::specs::Reading::named_at))]
+#[tactic(auto, unfolding(crate::specs::Parsed::named_at))]
 fn named(key: Key, bytes: &[u8]) -> Result<(Item, &[u8]), Flaw>
     ensures { Reads (λ x. (x.0, x.1.now)) result (named_at key bytes.now) }
 {
@@ -76,7 +76,7 @@ fn named(key: Key, bytes: &[u8]) -> Result<(Item, &[u8]), Flaw>
     Ok((Item::Put(key, Payload::To(node)), rest))
 }
 
-#[tactic(auto, unfolding(crate::specs::Reading::file_at))]
+#[tactic(auto, unfolding(crate::specs::Parsed::file_at))]
 fn file(key: Key, bytes: &[u8]) -> Result<(Item, &[u8]), Flaw>
     ensures { Reads (λ x. (x.0, x.1.now)) result (file_at key bytes.now) }
 {
@@ -84,7 +84,7 @@ fn file(key: Key, bytes: &[u8]) -> Result<(Item, &[u8]), Flaw>
     Ok((Item::Put(key, Payload::File(size)), rest))
 }
 
-#[tactic(auto, unfolding(crate::specs::Reading::bytes_at))]
+#[tactic(auto, unfolding(crate::specs::Parsed::bytes_at))]
 fn block(alloc: Global, key: Key, bytes: &[u8]) -> Result<(Item, &[u8]), Flaw>
     ensures { Reads (λ x. (x.0, x.1.now)) result (bytes_at key bytes.now) }
 {
@@ -94,7 +94,7 @@ fn block(alloc: Global, key: Key, bytes: &[u8]) -> Result<(Item, &[u8]), Flaw>
 }
 
 /// What stands behind the key.
-#[tactic(auto, unfolding(crate::specs::Reading::item_at))]
+#[tactic(auto, unfolding(crate::specs::Parsed::item_at))]
 fn item_of(alloc: Global, tag: Tag, key: Key, bytes: &[u8]) -> Result<(Item, &[u8]), Flaw>
     ensures { Reads (λ x. (x.0, x.1.now)) result (item_at tag key bytes.now) }
 {
@@ -134,7 +134,7 @@ fn item_behind<'a>(
 }
 
 /// The record that begins with this tag, behind the tag.
-#[tactic(auto, unfolding(crate::specs::Reading::record_at))]
+#[tactic(auto, unfolding(crate::specs::Parsed::record_at))]
 pub fn record_of<'a>(
     alloc: Global,
     full: bool,

@@ -119,7 +119,7 @@ fn with_items(mut out: Vec<u8>, items: &[Item]) -> Result<Vec<u8>, NoMemory>
 }
 
 /// The bytes of a full stream.
-#[tactic(auto, unfolding(crate::specs::Spelling::text, crate::specs::Spelling::body))]
+#[tactic(auto, unfolding(crate::specs::Written::text, crate::specs::Written::body))]
 pub fn write_full(alloc: Global, full: &Full) -> Result<Vec<u8>, NoMemory>
     requires { IsFull full.now }
     ensures { IfOk result (λ bytes. bytes.items ≡ text (stream.Full full.now)) }
@@ -131,7 +131,7 @@ pub fn write_full(alloc: Global, full: &Full) -> Result<Vec<u8>, NoMemory>
 }
 
 /// The bytes of a changed stream.
-#[tactic(auto, unfolding(crate::specs::Spelling::text, crate::specs::Spelling::body))]
+#[tactic(auto, unfolding(crate::specs::Written::text, crate::specs::Written::body))]
 pub fn write_changed(alloc: Global, changed: &Changed) -> Result<Vec<u8>, NoMemory>
     requires { IsChanged changed.now }
     ensures { IfOk result (λ bytes. bytes.items ≡ text (stream.Changed changed.now)) }
