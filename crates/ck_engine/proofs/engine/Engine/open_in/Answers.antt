@@ -2,7 +2,7 @@ use Rattle.std.proofs.Common.{refl}
 use Rattle.ck_files.specs.Plain.{IsOurs}
 use Rattle.ck_disk.specs.Runs.{OnlyReads}
 use Rattle.ck_slots.specs.Slots.{table_in}
-use Rattle.ck_engine.proofs.OpenLemmas.{plain_built, volume-opened}
+use Rattle.ck_engine.proofs.OpenLemmas.{plain_built, volume-opened, unbuilt-found, damaged-found}
 use Rattle.ck_engine.proofs.engine.Engine.open_in.Goals as goal
 
 pub blocks_in-requires : goal.blocks_in-requires
@@ -18,3 +18,15 @@ returns-clause-opened g c =
     let reads : OnlyReads (g.D.Disk.means c.args.disk) (g.D.Disk.means c.open.new.disk) = record { shows = d.shows; crash = d.crash; marks = d.marks; step = d.step } in
     volume-opened (g.D.Disk.means c.args.disk) (g.D.Disk.means c.open.new.disk) _ (g.met.D.Disk.lawful c.args.disk) (g.met.D.Disk.lawful c.open.new.disk) reads
     ours c.in-Ok-blocks_in.ensures c.in-Ok.ensures.sizes.0 c.in-Ok.ensures.sizes.1 c.requires.size c.requires.found c.requires.settled c.requires.synced c.in-Ok.ensures.table c.new.ensures
+
+pub returns-in-Err-BadFormat-clause-fault : goal.returns-in-Err-BadFormat-clause-fault
+returns-in-Err-BadFormat-clause-fault g c =
+    let d = c.open.ensures.device in
+    let reads : OnlyReads (g.D.Disk.means c.args.disk) (g.D.Disk.means c.open.new.disk) = record { shows = d.shows; crash = d.crash; marks = d.marks; step = d.step } in
+    unbuilt-found c.args.region (g.D.Disk.means c.args.disk) (g.D.Disk.means c.open.new.disk) (g.met.D.Disk.lawful c.args.disk) reads c.requires.found c.requires.settled _ c.in-Err-BadFormat.ensures.refused
+
+pub returns-in-Err-Damaged-clause-fault : goal.returns-in-Err-Damaged-clause-fault
+returns-in-Err-Damaged-clause-fault g c =
+    let d = c.open.ensures.device in
+    let reads : OnlyReads (g.D.Disk.means c.args.disk) (g.D.Disk.means c.open.new.disk) = record { shows = d.shows; crash = d.crash; marks = d.marks; step = d.step } in
+    damaged-found c.args.region (g.D.Disk.means c.args.disk) (g.D.Disk.means c.open.new.disk) (g.met.D.Disk.lawful c.args.disk) reads c.requires.found c.requires.settled _ _ c.in-Err-Damaged.ensures.refused
