@@ -15,7 +15,7 @@ use Rattle.ck_data.specs.Device.{store_on}
 use Rattle.ck_model.specs.World.{World}
 use Rattle.ck_laws.specs.Laws.{IsWorld, StoresBlocks, TablesStand}
 use Rattle.ck_engine.specs.Recovery.{Recovery, NotVolume, BadFormat, Damaged, Opens, world_in, unless_damaged, recovery_of, FindsBy, Recovers}
-use Rattle.ck_recovered.specs.Laws.{IsOpened, VolumesOpen, CrashesOpen}
+use Rattle.ck_recovered.specs.Laws.{IsVolume, VolumesOpen, CrashesOpen, ReadsOpen}
 
 -- ---- a volume lies within its device
 
@@ -83,5 +83,9 @@ module _ (stand : TablesStand) (image : Image) (w : World) (blocks : AreBlocks i
 pub volumes_open_lem : TablesStand → VolumesOpen
 volumes_open_lem stand image w opened = by_header stand image w opened.blocks (recovered_region image) refl opened.opens
 
-pub crashes_open_lem : CrashesOpen
+pub crashes_open_lem : (m : Meaning) → Lawful m → CrashesOpen m
 crashes_open_lem m law t image w left opens = record { blocks = law.blocks t image left; opens = opens }
+
+pub reads_open_lem : (m : Meaning) → Lawful m → ReadsOpen m
+reads_open_lem m law tells w opens =
+    crashes_open_lem m law m.moment m.shows w (law.counts_now m.moment m.shows (omega arith) (law.shown tells)) opens

@@ -1,5 +1,5 @@
 -- What holds of every volume that opens, and of its histories.
-use Rattle.std.specs.Prelude.{◌≡◌, ℕ, List, Some}
+use Rattle.std.specs.Prelude.{◌≡◌, ℕ, IsTrue, List, Some}
 use Rattle.std.specs.List.{AllByRecursion}
 use Rattle.std.specs.Option.{option_map}
 use Rattle.ck_disk.specs.Disk.{Image, Meaning, AreBlocks, Lawful}
@@ -17,36 +17,38 @@ use Rattle.ck_stream.specs.Right.{IsFull, contents, changes}
 use Rattle.ck_stream.specs.Texts.{texts as spelled}
 use Rattle.ck_engine.specs.Recovery.{Recovers}
 
--- the image consists of blocks, and opens to this world
-pub record IsOpened (image : Image) (w : World) : Type 0 where
+-- an image of blocks that opens to this world
+pub record IsVolume (image : Image) (w : World) : Type 0 where
   pub blocks : AreBlocks image
   pub opens : Recovers image w
 
 -- what an image opens to is a world as every volume has it
 abbrev pub VolumesOpen : Type 0
-VolumesOpen = (image : Image) (w : World) → IsOpened image w → IsWorld w
+VolumesOpen = (image : Image) (w : World) → IsVolume image w → IsWorld w
 
--- what a crash of a device may leave, now or since an earlier moment, consists of blocks
-abbrev pub CrashesOpen : Type 0
-CrashesOpen =
-    (m : Meaning) → Lawful m → (t : ℕ) (image : Image) (w : World) → m.left_since t image → Recovers image w →
-    IsOpened image w
+-- what a crash may leave, now or since an earlier moment, consists of blocks where it opens
+abbrev pub CrashesOpen : Meaning → Type 0
+CrashesOpen m = (t : ℕ) (image : Image) (w : World) → m.left_since t image → Recovers image w → IsVolume image w
+
+-- and so does what reads give
+abbrev pub ReadsOpen : Meaning → Type 0
+ReadsOpen m = IsTrue m.tells → (w : World) → Recovers m.shows w → IsVolume m.shows w
 
 -- the history is legal from the world that an image opens to
 pub record IsHistory (texts : Texts) (calls : CallsBy) (w : World) (history : List Entry) : Type 0 where
   pub image : Image
-  pub opened : IsOpened image w
+  pub opened : IsVolume image w
   pub legal : IsLegal texts calls w history
 
 -- the world after it is one as every volume has it
-abbrev pub WorldsStay : Type 0
-WorldsStay =
+abbrev pub OpenedWorldsStay : Type 0
+OpenedWorldsStay =
     (texts : Texts) (calls : CallsBy) (w : World) (history : List Entry) → IsHistory texts calls w history →
     IsWorld (state texts calls w history)
 
 -- a checkpoint that stands has the map that was frozen under its id, with marks in place of blocks where it is nodata
-abbrev pub FrozenMapsStay : Type 0
-FrozenMapsStay =
+abbrev pub OpenedMapsStay : Type 0
+OpenedMapsStay =
     (texts : Texts) (calls : CallsBy) (w : World) (history : List Entry) → IsHistory texts calls w history →
     AllByRecursion
     (λ checkpoint. option_map (shown_by checkpoint.kind) (frozen texts calls w history checkpoint.id) ≡ Some checkpoint.cells)
@@ -61,21 +63,21 @@ pub record AreFrozen (texts : Texts) (calls : CallsBy) (w : World) (history : Li
   pub later_map : frozen texts calls w history later ≡ Some b
 
 -- they are of one history
-abbrev pub FrozenMapsAgree : Type 0
-FrozenMapsAgree =
+abbrev pub OpenedMapsAgree : Type 0
+OpenedMapsAgree =
     (texts : Texts) (calls : CallsBy) (w : World) (history : List Entry) (id later : ℕ) (a b : Cells) →
     AreFrozen texts calls w history id later a b → OfOneHistory a b
 
 -- what changed from one to the other, applied to the first one's contents, gives the second one's
-abbrev pub FrozenChangesApply : Type 0
-FrozenChangesApply =
+abbrev pub OpenedChangesApply : Type 0
+OpenedChangesApply =
     (texts : Texts) (calls : CallsBy) (w : World) (history : List Entry) (id later : ℕ) (a b : Cells) →
     AreFrozen texts calls w history id later a b → applied (contents_of a) (map_changes a b) ≡ contents_of b
 
 -- and the full stream of one, with the backup from it to the other applied to it, is the other's full stream, byte for
 -- byte
-abbrev pub BackupsApply : Type 0
-BackupsApply =
+abbrev pub OpenedBackupsApply : Type 0
+OpenedBackupsApply =
     (calls : CallsBy) (w : World) (history : List Entry) (id later : ℕ) (a b : Cells) →
     AreFrozen spelled calls w history id later a b →
     (full next : Full) (changed : Changed) → contents full.items ≡ contents_of a → changes changed.items ≡ map_changes a b →
