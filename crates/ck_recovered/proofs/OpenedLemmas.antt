@@ -1,12 +1,12 @@
 -- The world that an image of blocks opens to.
-use Rattle.std.proofs.Common.{◌≡◌, ◌≤◌, ◌<◌, ◌+◌, ℕ, Bool, true, false, not, ◌&&◌, ◌==◌, nat_le, if◌then◌else◌, Option, Some, None, List, [], length, get_or, refl, sym, subst, arith}
+use Rattle.std.proofs.Common.{◌≡◌, ◌≤◌, ◌<◌, ◌+◌, ℕ, Bool, true, false, not, ◌&&◌, ◌==◌, nat_le, if◌then◌else◌, Option, Some, None, [], length, get_or, refl, subst, arith}
 use Rattle.std.specs.Prelude.{bytes_eq, take}
 use Rattle.std.specs.FinMap as map
 use Rattle.std.proofs.lemmas.Bool.Decides.{nat_tests}
 use Rattle.std.proofs.lemmas.List.Elements.{All-get_or}
 use Rattle.ck_disk.specs.Disk.{Image, Meaning, IsBlock, AreBlocks, Lawful}
 use Rattle.ck_log.specs.Layout.{Layout, is_sized, base_of, size_of}
-use Rattle.ck_log.specs.Header.{Recovered, NotVolume as NoVolume, BadFormat as BadHeader, Opens as OpensAt, magic, number_at, recovered_by}
+use Rattle.ck_log.specs.Header.{Recovered, NotVolume as NoVolume, BadFormat as BadHeader, Opens as OpensAt, magic, number_at}
 use Rattle.ck_log.specs.Images.{names_second, recovered_region, table_on}
 use Rattle.ck_area.specs.Area.{Area, AreSlots, table_of}
 use Rattle.ck_area.specs.Damage.{damage, is_unbuilt}
@@ -14,8 +14,8 @@ use Rattle.ck_area.proofs.TableLaws.{records_of_slots, table_within, undamaged_s
 use Rattle.ck_data.specs.Device.{store_on}
 use Rattle.ck_model.specs.World.{World}
 use Rattle.ck_laws.specs.Laws.{IsWorld, StoresBlocks, TablesStand}
-use Rattle.ck_engine.specs.Recovery.{Recovery, NotVolume, BadFormat, Damaged, Opens, world_in, unless_damaged, recovery_of, FindsBy, Recovers}
-use Rattle.ck_recovered.specs.Laws.{IsVolume, VolumesOpen, CrashesOpen, ReadsOpen}
+use Rattle.ck_engine.specs.Recovery.{BadFormat, Opens, world_in, unless_damaged, FindsBy}
+use Rattle.ck_recovered.specs.Laws.{VolumesOpen, CrashesOpen, ReadsOpen}
 
 -- ---- a volume lies within its device
 

@@ -2,7 +2,7 @@
 use Rattle.std.specs.Prelude.{◌≡◌, ℕ, IsTrue, List, Some}
 use Rattle.std.specs.List.{AllByRecursion}
 use Rattle.std.specs.Option.{option_map}
-use Rattle.ck_disk.specs.Disk.{Image, Meaning, AreBlocks, Lawful}
+use Rattle.ck_disk.specs.Disk.{Image, Meaning, AreBlocks}
 use Rattle.ck_model.specs.declared.entry.Entry.{Entry}
 use Rattle.ck_model.specs.Cells.{Cells, OfOneHistory}
 use Rattle.ck_model.specs.World.{World, shown_by}
@@ -37,7 +37,7 @@ ReadsOpen m = IsTrue m.tells → (w : World) → Recovers m.shows w → IsVolume
 -- the history is legal from the world that an image opens to
 pub record IsHistory (texts : Texts) (calls : CallsBy) (w : World) (history : List Entry) : Type 0 where
   pub image : Image
-  pub opened : IsVolume image w
+  pub volume : IsVolume image w
   pub legal : IsLegal texts calls w history
 
 -- the world after it is one as every volume has it
