@@ -151,7 +151,7 @@ module _ (layout : Layout) (old new : Meaning) (law : Lawful old) (reads : OnlyR
     λ told.
         let r = refused told in
         subst (λ v. Finds old.shows (BadFormat v)) (sym r.2.0) (finds (BadFormat 0) r.0 told r.1 (unbuilt r.0 (is_unbuilt r.0) r.2.1)),
-    left_alone
+    left_alone,
   )
 
   broken : (area : Area) (b : Bool) (o : Option ℕ) (slot : ℕ) → b ≡ false → o ≡ Some slot
@@ -168,7 +168,7 @@ module _ (layout : Layout) (old new : Meaning) (law : Lawful old) (reads : OnlyR
         (subst (λ p. Finds old.shows (Damaged (area_at layout.records layout.second + slot / 32) p)) (sym r.2.1.1.1.1)
         (finds (Damaged (area_at layout.records layout.second + slot / 32) (slot % 32)) r.0 told r.1
         (broken r.0 (is_unbuilt r.0) (damage layout.blocks layout.records r.0) slot r.2.0 r.2.1.1.0))),
-    left_alone
+    left_alone,
   )
 
 -- ---- the data blocks of a table
