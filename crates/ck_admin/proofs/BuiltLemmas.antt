@@ -28,7 +28,7 @@ built_call (Read path place len) h valid within = within
 built_call (Ls path) h valid within = tt
 built_call (Stat path) h valid within = tt
 built_call (Create name nodata removable) h valid within = let flags = neither nodata removable h in (flags.0, flags.1, valid)
-built_call (Remove name) h valid within = cc
+built_call (Remove name) h valid within = tt
 built_call (Nodata name synchronous) h valid within = cc
 built_call (Removable name on) h valid within = cc
 built_call Ckpts h valid within = tt

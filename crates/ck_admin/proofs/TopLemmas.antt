@@ -21,8 +21,8 @@ use Rattle.ck_admin.specs.Ends.{IsPrinted, IsUnplayed, EndsOn}
 use Rattle.ck_admin.specs.Crash.{synced_count, RecoversCut, CutFrom, LeavesCuts, LeavesSince, found_broken, IsPlayed}
 use Rattle.ck_volume.specs.Causes.{HasCauses, replies_of}
 use Rattle.ck_admin.specs.Play.{IsPlay, lost_a_write}
-use Rattle.ck_admin.specs.Statuses.{IsPrintFault, IsOpenStatus, play_status}
-use Rattle.ck_admin.specs.Top.{PrintsPlay, EndsWhole, EndsAnyhow, LostNothing, Gains, GainsFront, GainsAllOrNothing, EndsPlay, leaves_device}
+use Rattle.ck_admin.specs.Statuses.{IsPrintFault, IsRefusedAt, IsOpenStatus, play_status}
+use Rattle.ck_admin.specs.Top.{PrintsPlay, EndsWhole, EndsAnyhow, LostNothing, Gains, GainsFront, GainsNone, GainsAllOrNothing, EndsPlay, leaves_device}
 use Rattle.ck_disk.proofs.RunLaws.{leaves_on}
 use Rattle.ck_admin.proofs.PlayedLemmas.{rose_later}
 
@@ -61,6 +61,15 @@ some_lost (entry ∷ history) h =
 -- so the count of failed writes rose
 pub lost-rose : (before after : Meaning) (history : List Entry) → HasCauses before after history → lost_a_write history ≡ true → Rose before.write_faults after.write_faults
 lost-rose before after history causes lost = let some = some_lost history lost in omega (arith, causes.writes, some)
+
+-- ---- a script
+
+-- one that was read isn't refused
+pub read_or_refused : (source : SourceMeaning) (read : Parsed) (line : ℕ) → (IsTrue source.tells → read_script source.left ≡ Ok read) → IsRefusedAt source line → ⊥
+read_or_refused source read line script refused =
+    let ok : read_script source.left ≡ Ok read = script refused.0 in
+    let err : read_script source.left ≡ Err line = refused.1 in
+    cc
 
 -- ---- a play from an opened device
 
@@ -153,7 +162,7 @@ module _ (source left : SourceMeaning) (clock : ClockMeaning) (old new : SinkMea
   unprinted done DeviceFault fault = absurd fault
   unprinted done SourceFault fault = absurd fault
   unprinted done SinkFault fault = (fault.cause, prints (EndsWhole after) (GainsFront old new) (ends_whole done) (record { front = fault.part; proper = fault.proper }))
-  unprinted done NoMemory fault = inr (prints LostNothing (GainsAllOrNothing old new) (lost_nothing (ap found_broken done)) (inr (inl fault)))
+  unprinted done NoMemory fault = inr (inr (prints (EndsWhole after) (GainsNone old new) (ends_whole done) fault))
 
   lost_write : Rose before.write_faults after.write_faults → (printed : Result (Unit {0}) Status) → OnOk printed (Gains old new calls history) → IfErr printed (λ status. IsPrintFault old new calls history status)
       → EndsPlay source left clock old new before after DeviceFault
@@ -165,7 +174,7 @@ module _ (source left : SourceMeaning) (clock : ClockMeaning) (old new : SinkMea
   ends_play answer.Done is (Err status) whole fault = unprinted is status fault
   ends_play answer.WriteFault is printed whole fault = lost_write (rose_later before.write_faults mid.write_faults after.write_faults opened.writes (played.cause is)) printed whole fault
   ends_play (answer.Broken number) is printed whole fault = lost_write (lost-rose before after history from_before.causes (played.lost ∙ ap found_broken is)) printed whole fault
-  ends_play answer.NoMemory is printed whole fault = inr (prints LostNothing (GainsAllOrNothing old new) (lost_nothing (ap found_broken is)) (gained printed whole fault))
+  ends_play answer.NoMemory is printed whole fault = inr (inl (prints LostNothing (GainsAllOrNothing old new) (lost_nothing (ap found_broken is)) (gained printed whole fault)))
 
 -- a play on a device that was opened
 pub ends_opened : (source left : SourceMeaning) (clock : ClockMeaning) (old new : SinkMeaning) (before mid after : Meaning) → Lawful before → Lawful mid → (read : Parsed) (w : World) (status : Status)

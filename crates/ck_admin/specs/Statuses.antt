@@ -29,6 +29,10 @@ IsReadFault old new SourceFault = io.Rose old.faults new.faults
 IsReadFault old new SinkFault = ⊥
 IsReadFault old new NoMemory = Unit {0}
 
+-- the source had left a script of which this line is the first that is refused
+abbrev pub IsRefusedAt : SourceMeaning → ℕ → Type 0
+IsRefusedAt source line = IsTrue source.tells × (read_script source.left ≡ Err line)
+
 -- the sink failed and gained the front of a history's text, or memory was refused and it gained nothing
 pub record GainsInPart (old new : SinkMeaning) (calls : CallsBy) (history : List Entry) : Type 0 where
   pub cause : io.Rose old.faults new.faults

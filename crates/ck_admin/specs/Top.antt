@@ -70,11 +70,15 @@ GainsNothing old new = IsTrue old.tells → new.holds ≡ old.holds
 abbrev pub GainsAllOrNothing : SinkMeaning → SinkMeaning → CallsBy → List Entry → Type 0
 GainsAllOrNothing old new calls history = Gains old new calls history ⊎ (GainsNothing old new ⊎ (io.Rose old.faults new.faults × GainsFront old new calls history))
 
+abbrev pub GainsNone : SinkMeaning → SinkMeaning → CallsBy → List Entry → Type 0
+GainsNone old new calls history = GainsNothing old new
+
 -- nothing was printed, and a crash leaves what it could leave before
 abbrev pub PlaysNothing : SinkMeaning → SinkMeaning → Meaning → Meaning → Type 0
 PlaysNothing old new before after = GainsNothing old new × LeavesOnly before after before.may_leave
 
--- how a play ends: why, what is printed then, and what a crash leaves
+-- How a play ends: why, what is printed then, and what a crash leaves. Memory is refused before the first call, or for the
+-- commit behind the last one, or for the text behind a commit that was done.
 abbrev pub EndsPlay : SourceMeaning → SourceMeaning → ClockMeaning → SinkMeaning → SinkMeaning → Meaning → Meaning → Status → Type 0
 EndsPlay source left clock old new before after Done = PrintsPlay source clock before after (EndsWhole after) (Gains old new)
 EndsPlay source left clock old new before after (Refused words) = ⊥
@@ -86,7 +90,10 @@ EndsPlay source left clock old new before after DeviceFault =
     ⊎ (Rose before.write_faults after.write_faults × PrintsPlay source clock before after EndsAnyhow (GainsAllOrNothing old new))
 EndsPlay source left clock old new before after SourceFault = io.Rose source.faults left.faults × GainsNothing old new
 EndsPlay source left clock old new before after SinkFault = io.Rose old.faults new.faults × PrintsPlay source clock before after (EndsWhole after) (GainsFront old new)
-EndsPlay source left clock old new before after NoMemory = PlaysNothing old new before after ⊎ PrintsPlay source clock before after LostNothing (GainsAllOrNothing old new)
+EndsPlay source left clock old new before after NoMemory =
+    PlaysNothing old new before after
+    ⊎ (PrintsPlay source clock before after LostNothing (GainsAllOrNothing old new)
+    ⊎ PrintsPlay source clock before after (EndsWhole after) (GainsNone old new))
 
 -- How a device is made a volume: each image that a crash leaves has the empty world and nothing beside it, or it is too
 -- short, or it failed.

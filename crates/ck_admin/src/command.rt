@@ -13,7 +13,7 @@ ghost use Rattle.ck_words.specs.declared.command.Command.TheVariants.{Play, Mkfs
 ghost use Rattle.ck_words.specs.Command.{command_of};
 ghost use Rattle.ck_admin.specs.Ends.{EndsOn};
 ghost use Rattle.ck_admin.specs.Play.{IsLater};
-ghost use Rattle.ck_admin.specs.Statuses.{play_status};
+ghost use Rattle.ck_admin.specs.Statuses.{play_status, IsReadFault, IsRefusedAt};
 ghost use Rattle.ck_admin.specs.Top.{is_usage, is_play, leaves_device, IsUntouched, EndsPlay, EndsMkfs};
 
 use crate::mkfs::mkfs;
@@ -96,6 +96,8 @@ fn play_script<S: Source, K: Sink, D: Disk, C: Clock>(
     clock: &mut C,
 ) -> Ended<D>
     ensures ends { EndsPlay (S.means source.old) (S.means source.new) (C.means clock.old) (K.means out.old) (K.means out.new) (D.means disk) (D.means result.disk) result.status }
+    ensures bad_script { (line : ℕ) → IsRefusedAt (S.means source.old) line → IsReadFault (S.means source.old) (S.means source.new) result.status }
+    ensures bad_script_device { (line : ℕ) → IsRefusedAt (S.means source.old) line → result.disk ≡ disk }
     ensures device { OnTrue (leaves_device result.status) (result.disk ≡ disk) }
     ensures later { IsLater (D.means disk) (D.means result.disk) }
     ensures source_tells { (S.means source.new).tells ≡ (S.means source.old).tells }
@@ -124,6 +126,8 @@ fn run_words<S: Source, K: Sink, D: Disk, C: Clock>(
     ensures untouched { OnFalse (is_play (command_of (list_map string_bytes words.now))) (IsUntouched (S.means source.old) (S.means source.new) (K.means out.old) (K.means out.new)) }
     ensures play { command_of (list_map string_bytes words.now) ≡ Some Play
         → EndsPlay (S.means source.old) (S.means source.new) (C.means clock.old) (K.means out.old) (K.means out.new) (D.means disk) (D.means result.disk) result.status }
+    ensures bad_script { (line : ℕ) → command_of (list_map string_bytes words.now) ≡ Some Play → IsRefusedAt (S.means source.old) line → IsReadFault (S.means source.old) (S.means source.new) result.status }
+    ensures bad_script_device { (line : ℕ) → command_of (list_map string_bytes words.now) ≡ Some Play → IsRefusedAt (S.means source.old) line → result.disk ≡ disk }
     ensures mkfs { (blocks records : ℕ) → command_of (list_map string_bytes words.now) ≡ Some (Mkfs blocks records) → EndsMkfs blocks records (D.means disk) (D.means result.disk) result.status }
     ensures short { (blocks records : ℕ) → command_of (list_map string_bytes words.now) ≡ Some (Mkfs blocks records) → (D.means disk).size < size_of blocks records → result.disk ≡ disk }
     ensures device { OnTrue (leaves_device result.status) (result.disk ≡ disk) }
@@ -166,6 +170,10 @@ pub fn top<S: Source, K: Sink, E: Sink, D: Disk, C: Clock>(
     // the status Done the whole. Each fault in it, and each other ending, has its cause.
     ensures play { command_of (list_map string_bytes words.now) ≡ Some Play
         → EndsPlay (S.means source.old) (S.means source.new) (C.means clock.old) (K.means out.old) (K.means out.new) (D.means disk) (D.means result.disk) result.status }
+
+    // A script that is refused ends the play before the device is looked at, whatever stands there.
+    ensures bad_script { (line : ℕ) → command_of (list_map string_bytes words.now) ≡ Some Play → IsRefusedAt (S.means source.old) line → IsReadFault (S.means source.old) (S.means source.new) result.status }
+    ensures bad_script_device { (line : ℕ) → command_of (list_map string_bytes words.now) ≡ Some Play → IsRefusedAt (S.means source.old) line → result.disk ≡ disk }
 
     // After mkfs each image has the empty world. A device that is too short is left as it is.
     ensures mkfs { (blocks records : ℕ) → command_of (list_map string_bytes words.now) ≡ Some (Mkfs blocks records) → EndsMkfs blocks records (D.means disk) (D.means result.disk) result.status }

@@ -1,9 +1,10 @@
 ghost use Rattle.std.specs.Prelude.{◌≡◌, ◌≤◌, [], None, IfOk, OnOk, OnErr, IsTrue, length};
 ghost use Rattle.std.specs.List.{AllByRecursion};
 ghost use Rattle.ck_model.specs.History.{IsOfScript, call_at};
+ghost use Rattle.ck_model.specs.Placed.{NoneGone};
 ghost use Rattle.ck_script.specs.Numbered.{calls_in};
 ghost use Rattle.ck_files.specs.Built.{IsBuilt};
-ghost use Rattle.ck_volume.specs.Volume.{disk_of, history_of, room_of, spoilt_of, committed_of, told_of, origin_of, world_of, IsBegun};
+ghost use Rattle.ck_volume.specs.Volume.{broken_of, disk_of, table_of, history_of, room_of, spoilt_of, committed_of, told_of, origin_of, world_of, IsBegun};
 ghost use Rattle.ck_engine.specs.Recovery.{Recovers};
 ghost use Rattle.ck_volume.specs.Told.{AreAnswered};
 ghost use Rattle.ck_admin.specs.Crash.{synced_count, IsPlayed};
@@ -49,8 +50,8 @@ fn answer_all<D: Disk, C: Clock>(
     }
 }
 
-/// Plays a script on a volume that was just opened. It takes memory for the entries of all its
-/// calls before the first one.
+/// Plays a script on a volume that was just opened, and then does what is left in the background. It
+/// takes memory for the entries of all its calls before the first one.
 pub fn play<D: Disk, C: Clock>(
     alloc: Global,
     volume: &mut Volume<D>,
@@ -69,11 +70,13 @@ pub fn play<D: Disk, C: Clock>(
     ensures synced { OnOk result (synced_count (call_at (calls_in script.now.calls)) (history_of volume.new) ≤ committed_of volume.new) }
     ensures origin { origin_of volume.new ≡ origin_of volume.old }
     ensures refused { OnErr result (disk_of volume.new ≡ disk_of volume.old) }
+    ensures drained { OnOk result (broken_of volume.new ≡ None → NoneGone (table_of volume.new)) }
     ensures none { OnErr result (history_of volume.new ≡ []) }
     ensures clock { C.means clock.new ≡ C.means clock.old }
 {
     volume.reserve(script.calls.items().len() as u32)?;
     answer_all(alloc, volume, script, clock);
+    volume.drain();
     Ok(())
 }
 

@@ -9,7 +9,7 @@ use ck_record::Record;
 fn is_unbuilt_form(fileset: &Fileset) -> bool
     ensures { result ≡ is_unbuilt_form fileset.now }
 {
-    fileset.gone || matches!(fileset.kind, Kind::Nodata) || fileset.removable
+    matches!(fileset.kind, Kind::Nodata) || fileset.removable
 }
 
 fn has_unbuilt_form(slot: &Option<Record>) -> bool
@@ -21,8 +21,8 @@ fn has_unbuilt_form(slot: &Option<Record>) -> bool
     }
 }
 
-/// Whether a checkpoint stands there that is gone, keeps no data or is removable: the forms of a
-/// checkpoint that can't be worked with yet.
+/// Whether a checkpoint stands there that keeps no data or is removable: the forms of a checkpoint
+/// that can't be worked with yet.
 pub fn is_unbuilt(area: &[Option<Record>]) -> bool
     ensures { result ≡ is_unbuilt area.now }
 {

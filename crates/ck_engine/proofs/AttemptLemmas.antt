@@ -1,19 +1,19 @@
 -- What calls leave of a volume and its device.
-use Rattle.std.proofs.Common.{◌≡◌, ◌≢◌, inl, inr, ℕ, ◌+◌, ◌-◌, ◌≤◌, ◌==◌, ◌||◌, IsTrue, false, List, [], get_or, Result, Ok, Err, OnOk, refl, sym, ap, subst, ◌∙◌, arith, get_or-set_other}
+use Rattle.std.proofs.Common.{◌≡◌, ◌≢◌, inl, inr, ℕ, ◌+◌, ◌-◌, ◌≤◌, ◌==◌, ◌||◌, ◌⊎◌, IsTrue, false, List, [], get_or, Result, Ok, Err, OnOk, refl, sym, ap, subst, ◌∙◌, arith, get_or-set_other}
 use Rattle.std.specs.FinMap as map
 use Rattle.std.specs.FinSet as set
 use Rattle.std.specs.Ordering.{nat_cmp}
-use Rattle.ck_disk.specs.Disk.{Image, Meaning, Lawful, Step, LeavesOnly, Agrees, Outside, IsSynced}
-use Rattle.ck_log.specs.Layout.{Layout, base_of, size_of}
+use Rattle.ck_disk.specs.Disk.{Image, Meaning, Lawful, Step, LeavesOnly, Agrees, IsSynced}
+use Rattle.ck_log.specs.Layout.{Layout, OutsideGateAndAreas, base_of, size_of}
 use Rattle.ck_log.specs.Images.{table_on, names_second, Settled, CommitLeaves}
-use Rattle.ck_log.proofs.AreaLaws.{area_low, area_high}
+use Rattle.ck_log.proofs.AreaLaws.{area_low, area_high, outside_both}
 use Rattle.ck_log.proofs.RecoveryLaws.{table_on-set, settled-keeps}
 use Rattle.ck_alloc.specs.Blocks.{Allocation, IsPartition, free_count}
 use Rattle.ck_model.specs.World.{World, unmounted}
 use Rattle.ck_model.specs.Table.{Table}
 use Rattle.ck_model.specs.TableWorld.{world_on, extent_count}
 use Rattle.ck_files.specs.Allocated.{IsAllocated, KeepsBusy}
-use Rattle.ck_engine.specs.Committed.{Keeps, OpensToEither}
+use Rattle.ck_engine.specs.Committed.{IsCommitted, Keeps, OpensToEither}
 use Rattle.ck_data.specs.Device.{store_on}
 use Rattle.ck_files.specs.Files.{AreFiles}
 use Rattle.ck_files.specs.Plain.{IsOurs}
@@ -27,7 +27,7 @@ use Rattle.ck_engine.specs.Engine.{table_of, mounts_of, blocks_of, layout_of, da
 use Rattle.ck_files.proofs.AllocatedLaws.{used_count}
 use Rattle.ck_files.proofs.WorldLaws.{world_same}
 use Rattle.ck_data.proofs.StoredLaws.{stored-keeps, kept_there}
-use Rattle.ck_engine.proofs.CommittedLemmas.{keeps-busy, keeps-committing, keeps-new, settled_busy, settled_allocated}
+use Rattle.ck_engine.proofs.CommittedLemmas.{keeps-busy, keeps-committing, committed-new, settled_busy, settled_allocated}
 use Rattle.ck_disk.proofs.MomentLaws.{leaves_more}
 use Rattle.ck_engine.proofs.GoesOnLemmas.{KeepsEither, either_busy, either_stores, either_reads, leaves_either_start, leaves_either_step, leaves_either_stores}
 
@@ -86,6 +86,28 @@ module _ {D : Type 0} where
     };
     kept = λ told w keeps. inl (subst (λ (l : Layout). Keeps l (blocks_of after) m w) (sym layout) (keeps-busy (layout_of before) (blocks_of before) m w keeps (blocks_of after) busy));
   }
+
+  -- ---- behind a step that nobody sees
+
+  module _ (m new : Meaning) (before middle after : Engine D) (world : world_of m.shows middle ≡ world_of m.shows before) (layout : layout_of middle ≡ layout_of before) (busy : KeepsBusy (blocks_of before) (blocks_of middle)) where
+    keeps-still : (w : World) → KeepsWorld m before w → KeepsWorld m middle w
+    keeps-still w keeps = subst (λ (l : Layout). Keeps l (blocks_of middle) m w) (sym layout) (keeps-busy (layout_of before) (blocks_of before) m w keeps (blocks_of middle) busy)
+
+    pub behind-attempt : IsAttempt m new middle after → IsAttempt m new before after
+    behind-attempt is = record {
+      runs = is.runs;
+      survives = λ told w keeps. subst (λ now. LeavesOnly m new (OpensToEither w (unmounted now))) world (is.survives told w (keeps-still w keeps));
+    }
+
+    behind-goes : GoesOn m new middle after → GoesOn m new before after
+    behind-goes is = record {
+      whole = is.whole;
+      kept = λ told w keeps. subst (λ now. KeepsWorld new after w ⊎ KeepsWorld new after (unmounted now)) world (is.kept told w (keeps-still w keeps));
+    }
+
+    pub behind-goes_all : {Y : Type 0} (r : Result Y Fault) → GoesOnOrBreaks m new middle after r → GoesOnOrBreaks m new before after r
+    behind-goes_all (Ok y) goes = behind-goes goes
+    behind-goes_all (Err why) goes = elim goes [ inl broken ↦ inl broken | inr goes ↦ inr (behind-goes goes) ]
 
   -- ---- reads
 
@@ -205,7 +227,7 @@ module _ {D : Type 0} where
     -- its end
     module _ (new_law : Lawful new) (layout : layout_of after ≡ record (layout_of before) { second = (layout_of after).second }) (table : table_of after ≡ table_of before) (mounts : mounts_of after ≡ mounts_of before)
         (settled : Settled (layout_of after) new) (synced : IsSynced new) (shown : IsTrue old.tells → table_on (layout_of after) new.shows ≡ commits.after)
-        (others : IsTrue old.tells → Agrees (Outside 1 (base_of (layout_of before).records - 1)) old.shows new.shows)
+        (others : IsTrue old.tells → Agrees (OutsideGateAndAreas (layout_of before).records) old.shows new.shows)
         (free : blocks_of after ≡ record (blocks_of before) { pending = set.empty }) (partition : IsPartition (blocks_of after)) where
       abbrev base : ℕ
       base = base_of (layout_of before).records
@@ -218,20 +240,23 @@ module _ {D : Type 0} where
       commit-world told =
           let here = (others told) in
           (λ i. world_on (store_on new.shows (base_of (layout i).records)) (mounts i) (table i))
-          ∙ world_same (table_of before) (mounts_of before) (store_on new.shows base) (store_on old.shows base) (λ block named. sym (here.at (base + block) (inr (omega (arith, base_high)))))
+          ∙ world_same (table_of before) (mounts_of before) (store_on new.shows base) (store_on old.shows base) (λ block named. sym (here.at (base + block) (outside_both (layout_of before).records (base + block) (inr (omega (arith, base_high))))))
 
-      pub commit-committed : IsTrue old.tells → (w : World) → KeepsWorld old before w → KeepsWorld new after (unmounted (world_of new.shows after))
-      commit-committed told w keeps =
+      pub commit-table : IsTrue old.tells → (w : World) → KeepsWorld old before w → IsCommitted (layout_of after) (blocks_of after) new (table_of before) (unmounted (world_of new.shows after))
+      commit-table told w keeps =
           let second = (layout_of after).second in
           let l = record (layout_of before) { second = second } in
           let new_told : IsTrue new.tells = subst IsTrue (sym ran.tells) told in
           let there : table_on (layout_of before) new.shows ≡ commits.after = ap (λ (l : Layout). table_on l new.shows) (sym layout) ∙ shown told in
-          let kept : Keeps l (blocks_of after) new (world_on (store_on new.shows base) map.empty (table_of before)) =
-          keeps-new (layout_of before) (blocks_of before) old w keeps law told (table_of before) whole.files.ours (sym whole.blocks) (sym whole.records) commits.after commits.slots
+          let kept : IsCommitted l (blocks_of after) new (table_of before) (world_on (store_on new.shows base) map.empty (table_of before)) =
+          committed-new (layout_of before) (blocks_of before) old w keeps law told (table_of before) whole.files.ours (sym whole.blocks) (sym whole.records) commits.after commits.slots
           second new (blocks_of after) new_law new_told ran there (subst (λ (l : Layout). Settled l new) layout settled) synced
           (settled_busy (table_of before) (blocks_of before) (blocks_of after) whole.files.allocated free) in
-          subst (λ (x : Layout). Keeps x (blocks_of after) new (world_on (store_on new.shows (base_of x.records)) map.empty (table_of after))) (sym layout)
-          (subst (λ (t : Table). Keeps l (blocks_of after) new (world_on (store_on new.shows base) map.empty t)) (sym table) kept)
+          subst (λ (x : Layout). IsCommitted x (blocks_of after) new (table_of before) (world_on (store_on new.shows (base_of x.records)) map.empty (table_of after))) (sym layout)
+          (subst (λ (t : Table). IsCommitted l (blocks_of after) new (table_of before) (world_on (store_on new.shows base) map.empty t)) (sym table) kept)
+
+      pub commit-committed : IsTrue old.tells → (w : World) → KeepsWorld old before w → KeepsWorld new after (unmounted (world_of new.shows after))
+      commit-committed told w keeps = record { table = table_of before; committed = commit-table told w keeps }
 
       pub commit-goes : GoesOn old new before after
       commit-goes = record {

@@ -11,7 +11,7 @@ use Rattle.ck_model.specs.Table.{Table}
 use Rattle.ck_model.specs.TableWorld.{world_on}
 use Rattle.ck_area.specs.Area.{AreSlots, written_as}
 use Rattle.ck_files.specs.Allocated.{is_named, is_busy, IsAllocated, KeepsBusy}
-use Rattle.ck_engine.specs.Committed.{Keeps, OpensToEither}
+use Rattle.ck_engine.specs.Committed.{IsCommitted, Keeps, OpensToEither}
 use Rattle.ck_data.specs.Device.{store_on}
 use Rattle.ck_files.specs.Plain.{IsOurs}
 use Rattle.ck_disk.specs.Runs.{OnlyReads}
@@ -84,21 +84,17 @@ module _ (layout : Layout) (blocks : Allocation) (m : Meaning) (w : World) (keep
         (commit-recovers layout keeps.table t after m law told ours limit records c.safe slots image leaves)
 
     -- once it is committed a crash leaves its world
-    pub keeps-new : (second : Bool) (new : Meaning) (later : Allocation) → Lawful new → IsTrue new.tells → LeavesOnly m new (CommitLeaves layout after m) → table_on layout new.shows ≡ after
+    pub committed-new : (second : Bool) (new : Meaning) (later : Allocation) → Lawful new → IsTrue new.tells → LeavesOnly m new (CommitLeaves layout after m) → table_on layout new.shows ≡ after
         → Settled (record layout { second = second }) new → IsSynced new → ((block : ℕ) → is_named t block ≡ true → is_busy later block ≡ true)
-        → Keeps (record layout { second = second }) later new (world_on (store_on new.shows (base_of layout.records)) map.empty t)
-    keeps-new second new later new_law new_told leaves shown settled synced busy =
-        record {
-          table = t;
-          committed = record {
-            ours = ours;
-            limit = limit;
-            records = records;
-            busy = busy;
-            safe = commit-safe layout second keeps.table t after m new law new_law told new_told ours limit records keeps.committed.safe slots leaves shown settled synced;
-            world = refl;
-          };
-        }
+        → IsCommitted (record layout { second = second }) later new t (world_on (store_on new.shows (base_of layout.records)) map.empty t)
+    committed-new second new later new_law new_told leaves shown settled synced busy = record {
+      ours = ours;
+      limit = limit;
+      records = records;
+      busy = busy;
+      safe = commit-safe layout second keeps.table t after m new law new_law told new_told ours limit records keeps.committed.safe slots leaves shown settled synced;
+      world = refl;
+    }
 
 -- ---- what a crash leaves of several calls
 

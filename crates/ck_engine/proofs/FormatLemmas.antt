@@ -1,5 +1,5 @@
 -- A volume as it is made.
-use Rattle.std.proofs.Common.{◌≡◌, ℕ, ◌||◌, ◌≤◌, false, is_some, IsTrue, None, [], refl, sym, ap, subst, ◌∙◌}
+use Rattle.std.proofs.Common.{◌≡◌, ℕ, ◌||◌, ◌≤◌, false, is_some, IsTrue, None, Some, [], refl, sym, ap, subst, ◌∙◌}
 use mathlib.Core.Bool.{false≢true}
 use Rattle.std.specs.Ordering.{nat_cmp}
 use Rattle.std.specs.FinMap as map
@@ -9,6 +9,8 @@ use Rattle.ck_log.specs.Layout.{Layout, table_blocks, base_of, size_of}
 use Rattle.ck_log.specs.Header.{Opens as OpensAt}
 use Rattle.ck_log.specs.FirstTable.{first_table, new_layout}
 use Rattle.ck_log.specs.Images.{recovered_region, table_on, Settled}
+use Rattle.ck_model.specs.declared.checkpoint.Fileset.{Fileset}
+use Rattle.ck_model.specs.Placed.{NoneGone}
 use Rattle.ck_model.specs.TableWorld.{world_on}
 use Rattle.ck_model.specs.Table.{Table}
 use Rattle.ck_area.specs.Area.{AreSlots, new_table}
@@ -16,6 +18,7 @@ use Rattle.ck_slots.specs.Formatted.{StandsForEmpty}
 use Rattle.ck_slots.specs.Written.{slots_of}
 use Rattle.ck_files.specs.Allocated.{IsAllocated}
 use Rattle.ck_data.specs.Device.{store_on}
+use Rattle.ck_engine.specs.Committed.{IsCommitted}
 use Rattle.ck_engine.specs.Formatted.{new_world, IsFormatted}
 use Rattle.ck_files.specs.Plain.{IsOurs, IsPlain}
 use Rattle.ck_engine.specs.Safe.{HoldsTable}
@@ -24,12 +27,18 @@ use Rattle.ck_engine.specs.Engine.{table_of, mounts_of, blocks_of, layout_of, Ke
 use Rattle.ck_disk.specs.Runs.{Runs}
 use Rattle.ck_engine.proofs.SafeLemmas.{written-built, written-undamaged, written-table}
 use Rattle.ck_engine.proofs.OpenLemmas.{synced-safe}
-use Rattle.ck_engine.proofs.KeptLaws.{kept-exact}
+use Rattle.ck_engine.proofs.KeptLaws.{committed-exact}
 
 -- a new table has no checkpoint
+none_stands : (blocks records : ℕ) (t : Table) → t ≡ new_table blocks records → (id : ℕ) (fileset : Fileset) → map.get t.filesets id ≡ Some fileset → ⊥
+none_stands blocks records t is id fileset has =
+    false≢true (ap is_some (sym (map.get-empty nat_cmp id) ∙ ap (λ (x : Table). map.get x.filesets id) (sym is) ∙ has))
+
 pub plain_new : (blocks records : ℕ) (t : Table) → t ≡ new_table blocks records → IsPlain t
-plain_new blocks records t is id fileset has =
-    absurd (false≢true (ap is_some (sym (map.get-empty nat_cmp id) ∙ ap (λ (x : Table). map.get x.filesets id) (sym is) ∙ has)))
+plain_new blocks records t is id fileset has = absurd (none_stands blocks records t is id fileset has)
+
+none_gone : (blocks records : ℕ) (t : Table) → t ≡ new_table blocks records → NoneGone t
+none_gone blocks records t is id fileset has = absurd (none_stands blocks records t is id fileset has)
 
 module _ {D : Type 0} (blocks records : ℕ) (old new : Meaning) (volume : Engine D) (new_law : Lawful new) (runs : Runs old new)
     (layout : layout_of volume ≡ new_layout blocks records) (new_is : table_of volume ≡ new_table (layout_of volume).blocks (layout_of volume).records) (ours : IsOurs (table_of volume)) (allocated : IsAllocated (table_of volume) (blocks_of volume))
@@ -65,19 +74,16 @@ module _ {D : Type 0} (blocks records : ℕ) (old new : Meaning) (volume : Engin
       ∙ (λ i. new_world (blocks_are i) (records_are i))
       ∙ ap (λ (l : Layout). new_world l.blocks l.records) layout
 
-  kept : IsTrue old.tells → KeepsWorld new volume (new_world blocks records)
-  kept told =
+  committed : IsTrue old.tells → IsCommitted place (blocks_of volume) new t (new_world blocks records)
+  committed told =
       let new_told : IsTrue new.tells = subst IsTrue (sym runs.tells) told in
       record {
-        table = t;
-        committed = record {
-          ours = ours;
-          limit = blocks_are;
-          records = records_are;
-          busy = λ block named. ap (λ b. b || set.contains (blocks_of volume).pending block) (allocated.used block ∙ ap (λ b. b || false) named);
-          safe = synced-safe place t new new_law new_told synced (holds told);
-          world = empty-is;
-        };
+        ours = ours;
+        limit = blocks_are;
+        records = records_are;
+        busy = λ block named. ap (λ b. b || set.contains (blocks_of volume).pending block) (allocated.used block ∙ ap (λ b. b || false) named);
+        safe = synced-safe place t new new_law new_told synced (holds told);
+        world = empty-is;
       }
 
   pub volume-formatted : IsFormatted blocks records old new volume
@@ -95,6 +101,6 @@ module _ {D : Type 0} (blocks records : ℕ) (old new : Meaning) (volume : Engin
     long = size;
     runs = runs;
     world = ap (λ mounts. world_on (store_on new.shows (base_of place.records)) mounts t) mounts ∙ empty-is;
-    kept = kept;
-    exact = λ told image left. kept-exact new volume (new_world blocks records) (kept told) image left;
+    kept = λ told. record { table = t; committed = committed told };
+    exact = λ told image left. committed-exact place (blocks_of volume) new t (new_world blocks records) (committed told) (none_gone place.blocks place.records t new_is) image left;
   }

@@ -9,8 +9,9 @@ use Rattle.ck_log.specs.Layout.{Layout, base_of}
 use Rattle.ck_alloc.specs.Blocks.{Allocation}
 use Rattle.ck_model.specs.World.{World}
 use Rattle.ck_model.specs.Space.{held, records_in}
+use Rattle.ck_model.specs.Placed.{NoneGone}
 use Rattle.ck_model.specs.Table.{Table}
-use Rattle.ck_engine.specs.Committed.{Keeps}
+use Rattle.ck_engine.specs.Committed.{IsCommitted}
 use Rattle.ck_data.specs.Device.{store_on}
 use Rattle.ck_engine.specs.Exact.{IsExact}
 use Rattle.ck_engine.specs.Recovery.{Recovery, Opens, Finds, FindsBy, recovery_of, Recovers}
@@ -21,29 +22,23 @@ use Rattle.ck_files.proofs.RoomLaws.{held-is, records-is}
 use Rattle.ck_engine.proofs.SafeLemmas.{named_same, holds-recovers}
 use Rattle.ck_engine.proofs.CommittedLemmas.{keeps-recovers}
 
--- each image of a device that keeps a world has it, and nothing beside it
-keeps-exact : (layout : Layout) (blocks : Allocation) (m : Meaning) (w : World) → Keeps layout blocks m w → (image : Image) → m.may_leave image → IsExact w image
-keeps-exact layout blocks m w keeps image left =
-    let c = keeps.committed in
-    let t : Table = keeps.table in
+-- each image of a device on which a table is committed has its world, and nothing beside it where no checkpoint is gone
+pub committed-exact : (layout : Layout) (blocks : Allocation) (m : Meaning) (t : Table) (w : World) → IsCommitted layout blocks m t w → NoneGone t → (image : Image) → m.may_leave image → IsExact w image
+committed-exact layout blocks m t w c none image left =
     let base = base_of layout.records in
     record {
       layout = layout;
       table = t;
       holds = c.safe.table image left;
       world = world_same t map.empty (store_on image base) (store_on m.shows base) (named_same layout t m.shows image (c.safe.blocks image left)) ∙ c.world;
-      records = sym (records-is (store_on m.shows base) map.empty t c.ours) ∙ ap records_in c.world;
-      blocks = sym (held-is (store_on m.shows base) map.empty t c.ours) ∙ ap held c.world;
-      standing = λ id fileset has. (c.ours.plain id fileset has).gone;
+      records = sym (records-is (store_on m.shows base) map.empty t c.ours.lawful c.ours.sound none) ∙ ap records_in c.world;
+      blocks = sym (held-is (store_on m.shows base) map.empty t c.ours.lawful c.ours.sound c.ours.plain none) ∙ ap held c.world;
+      standing = none;
     }
 
 -- a crash leaves the world that is kept
 pub kept-recovers : {D : Type 0} (m : Meaning) (volume : Engine D) (w : World) → KeepsWorld m volume w → (image : Image) → m.may_leave image → Recovers image w
 kept-recovers m volume w keeps image left = keeps-recovers (layout_of volume) (blocks_of volume) m w keeps image left
-
--- and nothing beside it
-pub kept-exact : {D : Type 0} (m : Meaning) (volume : Engine D) (w : World) → KeepsWorld m volume w → (image : Image) → m.may_leave image → IsExact w image
-kept-exact m volume w keeps image left = keeps-exact (layout_of volume) (blocks_of volume) m w keeps image left
 
 -- an image that has a world and nothing beside it opens to it
 pub exact-recovers : (w : World) (image : Image) → IsExact w image → Recovers image w

@@ -1,5 +1,5 @@
 -- A volume as it is opened.
-use Rattle.std.proofs.Common.{◌≡◌, inr, ⊎_elim, ℕ, zero, suc, ◌+◌, ◌/◌, ◌%◌, ◌||◌, ◌<◌, ◌≤◌, Bool, true, false, not, if◌then◌else◌, IsTrue, Option, Some, None, List, [], ◌∷◌, length, nat_eq, slice_index_or, Result, Ok, Err, IfOk, IfErr, refl, sym, ap, subst, ◌∙◌, arith}
+use Rattle.std.proofs.Common.{◌≡◌, inr, ⊎_elim, ℕ, zero, suc, ◌%◌, ◌||◌, ◌<◌, ◌≤◌, Bool, true, false, not, IsTrue, None, List, [], ◌∷◌, length, nat_eq, slice_index_or, Result, Ok, Err, IfOk, IfErr, if◌then◌else◌, refl, sym, ap, subst, ◌∙◌, arith}
 use Rattle.std.specs.List.{list_any}
 use Rattle.std.proofs.lemmas.Bool.Decides.{nat_tests}
 use Rattle.ck_alloc.specs.Blocks.{Allocation, IsPartition, used_alone}
@@ -12,8 +12,8 @@ use mathlib.Core.Bool.{false≢true}
 use Rattle.std.specs.FinMap as map
 use Rattle.std.specs.FinSet as set
 use Rattle.ck_disk.specs.Disk.{Image, Meaning, Lawful, IsClean, IsSynced, LeavesOnly, Rose}
-use Rattle.ck_log.specs.Layout.{Layout, area_at, base_of, size_of}
-use Rattle.ck_log.specs.Header.{Opens as OpensAt}
+use Rattle.ck_log.specs.Layout.{Layout, base_of, size_of}
+use Rattle.ck_log.specs.Header.{Recovered, Opens as OpensAt}
 use Rattle.ck_log.specs.Images.{recovered_region, area_of, Settled}
 use Rattle.ck_log.proofs.RecoveryLaws.{recovered_region-agrees, table_on-agrees, area_of-settled, settled-keeps}
 use Rattle.ck_model.specs.World.{keeps_files}
@@ -21,8 +21,9 @@ use Rattle.ck_model.specs.Table.{Table}
 use Rattle.ck_model.specs.Rules.{IsSound}
 use Rattle.ck_model.specs.TableWorld.{world_on}
 use Rattle.ck_area.specs.Area.{Area, AreSlots}
-use Rattle.ck_area.specs.Damage.{damage, is_unbuilt}
-use Rattle.ck_slots.specs.Opened.{IsBuilt, IsOpened as IsOpenedTable, IsRefused}
+use Rattle.ck_area.specs.Damage.{damage}
+use Rattle.ck_slots.specs.Opened.{IsBuilt, IsRefused, IsOpened as IsOpenedTable, IsOpenFault as IsOpenSlotsFault}
+use Rattle.ck_slots.specs.declared.opened.OpenSlots.{OpenSlots}
 use Rattle.ck_slots.specs.declared.opened.OpenSlots.TheVariants as open_slots
 use Rattle.ck_files.specs.Allocated.{is_named, IsAllocated}
 use Rattle.ck_data.specs.Device.{store_on}
@@ -31,7 +32,7 @@ use Rattle.ck_engine.specs.declared.open.OpenFault.{OpenFault}
 use Rattle.ck_engine.specs.declared.open.OpenFault.TheVariants as fault
 use Rattle.ck_files.specs.Plain.{IsOurs, IsPlain}
 use Rattle.ck_disk.specs.Runs.{OnlyReads}
-use Rattle.ck_engine.specs.Recovery.{Recovery, NotVolume, BadFormat, Damaged, unless_damaged, recovery_of, FindsBy, Finds, Recovers}
+use Rattle.ck_engine.specs.Recovery.{Recovery, NotVolume, BadFormat, Damaged, FindsBy, Finds, Recovers, recovery_of, unless_damaged}
 use Rattle.ck_engine.specs.Safe.{HoldsTable, IsSafe}
 use Rattle.ck_engine.specs.declared.engine.Engine.{Engine}
 use Rattle.ck_engine.specs.Engine.{table_of, mounts_of, blocks_of, layout_of, world_of}
@@ -57,16 +58,15 @@ synced-safe layout t m law told synced holds = record {
       record { size = same.size; at = λ k at. same.at k (synced k) };
 }
 
-three_false : (a b c : Bool) → (a || not b || c) ≡ false → (a ≡ false) × (b ≡ true) × (c ≡ false)
-three_false true b c h = absurd (false≢true (sym h))
-three_false false true c h = (refl, refl, h)
-three_false false false c h = absurd (false≢true (sym h))
+both_false : (b c : Bool) → (not b || c) ≡ false → (b ≡ true) × (c ≡ false)
+both_false true c h = (refl, h)
+both_false false c h = absurd (false≢true (sym h))
 
 -- no checkpoint is of a form that isn't built
 pub plain_built : (t : Table) → IsBuilt t → IsPlain t
 plain_built t built id fileset has =
-    let f = three_false fileset.gone (keeps_files fileset.kind) fileset.removable (built id fileset has) in
-    record { gone = f.0; keeps = f.1; stays = f.2 }
+    let f = both_false (keeps_files fileset.kind) fileset.removable (built id fileset has) in
+    record { keeps = f.0; stays = f.1 }
 
 pub opened-holds : (layout : Layout) (t : Table) (m : Meaning) → Lawful m → IsTrue m.tells → recovered_region m.shows ≡ OpensAt layout → Settled layout m → IsOpenedTable layout m t → HoldsTable layout t m.shows
 opened-holds layout t m law told found settled opened = record {
@@ -127,49 +127,45 @@ module _ {D : Type 0} (old new : Meaning) (volume : Engine D) (law : Lawful old)
     any_moment = leaves_step old old new old.may_leave (leaves_start old old.may_leave law (λ c left. left)) reads.step reads.crash;
   }
 
--- ---- slots that are refused
+-- ---- a table that is refused
 
-module _ (layout : Layout) (old new : Meaning) (law : Lawful old) (reads : OnlyReads old new)
-    (found : IsTrue old.tells → recovered_region old.shows ≡ OpensAt layout) (settled : Settled layout old) where
-  abbrev fits : Area → Recovery → Type 0
-  fits area said = said ≡ recovery_of layout old.shows area
+module _ (layout : Layout) (old new : Meaning) (law : Lawful old) (reads : OnlyReads old new) (found : IsTrue old.tells → recovered_region old.shows ≡ OpensAt layout) (settled : Settled layout old) where
+  quiet : LeavesOnly old new old.may_leave
+  quiet = leaves_step old old new old.may_leave (leaves_start old old.may_leave law (λ c left. left)) reads.step reads.crash
 
-  finds : (said : Recovery) (area : Area) → IsTrue old.tells → AreSlots (area_of layout old.shows) area → fits area said → Finds old.shows said
-  finds said area told slots is =
-      subst (λ header. FindsBy header old.shows said) (sym (found told))
-      (area, subst (λ blocks. AreSlots blocks area) (area_of-settled layout old law told settled) slots, is)
+  -- what the slots of its area say is what opening finds
+  finds_area : IsTrue old.tells → (area : Area) → AreSlots (area_of layout old.shows) area → (is : Recovery) → recovery_of layout old.shows area ≡ is → Finds old.shows is
+  finds_area told area slots is same =
+      subst (λ (header : Recovered). FindsBy header old.shows is) (sym (found told))
+      (area, subst (λ blocks. AreSlots blocks area) (area_of-settled layout old law told settled) slots, sym same)
 
-  left_alone : LeavesOnly old new old.may_leave
-  left_alone = leaves_step old old new old.may_leave (leaves_start old old.may_leave law (λ c left. left)) reads.step reads.crash
-
-  unbuilt : (area : Area) (b : Bool) → b ≡ true → BadFormat 0 ≡ (if b then BadFormat 0 else unless_damaged layout old.shows area (damage layout.blocks layout.records area))
-  unbuilt area true is = refl
-  unbuilt area false is = absurd (false≢true is)
-
-  pub unbuilt-found : (version : ℕ) → IsRefused layout old (open_slots.BadFormat version) → IsFound old new (BadFormat version)
-  unbuilt-found version refused = (
+  unbuilt : (version : ℕ) → IsRefused layout old (open_slots.BadFormat version) → IsFound old new (BadFormat version)
+  unbuilt version refused = (
     λ told.
         let r = refused told in
-        subst (λ v. Finds old.shows (BadFormat v)) (sym r.2.0) (finds (BadFormat 0) r.0 told r.1 (unbuilt r.0 (is_unbuilt r.0) r.2.1)),
-    left_alone,
+        finds_area told r.0 r.1 (BadFormat version)
+        (ap (λ (b : Bool). if b then BadFormat 0 else unless_damaged layout old.shows r.0 (damage layout.blocks layout.records r.0)) r.2.1 ∙ ap BadFormat (sym r.2.0)),
+    quiet,
   )
 
-  broken : (area : Area) (b : Bool) (o : Option ℕ) (slot : ℕ) → b ≡ false → o ≡ Some slot
-      → Damaged (area_at layout.records layout.second + slot / 32) (slot % 32) ≡ (if b then BadFormat 0 else unless_damaged layout old.shows area o)
-  broken area true o slot is at = absurd (false≢true (sym is))
-  broken area false o slot is at = ap (unless_damaged layout old.shows area) (sym at)
-
-  pub damaged-found : (block place : ℕ) → IsRefused layout old (open_slots.Damaged block place) → IsFound old new (Damaged block place)
-  damaged-found block place refused = (
+  damaged : (block place : ℕ) → IsRefused layout old (open_slots.Damaged block place) → IsFound old new (Damaged block place)
+  damaged block place refused = (
     λ told.
         let r = refused told in
-        let slot = r.2.1.0 in
-        subst (λ b. Finds old.shows (Damaged b place)) (sym r.2.1.1.1.0)
-        (subst (λ p. Finds old.shows (Damaged (area_at layout.records layout.second + slot / 32) p)) (sym r.2.1.1.1.1)
-        (finds (Damaged (area_at layout.records layout.second + slot / 32) (slot % 32)) r.0 told r.1
-        (broken r.0 (is_unbuilt r.0) (damage layout.blocks layout.records r.0) slot r.2.0 r.2.1.1.0))),
-    left_alone,
+        finds_area told r.0 r.1 (Damaged block place)
+        (ap (λ (b : Bool). if b then BadFormat 0 else unless_damaged layout old.shows r.0 (damage layout.blocks layout.records r.0)) r.2.0
+        ∙ ap (unless_damaged layout old.shows r.0) r.2.2
+        ∙ ap (λ (n : ℕ). Damaged n (r.2.1 % 32)) (sym r.2.3)
+        ∙ ap (Damaged block) (sym r.2.4)),
+    quiet,
   )
+
+  -- the refusal that is handed on
+  pub refused_format : (why : OpenSlots) → IsOpenSlotsFault layout old new why → (version : ℕ) → why ≡ open_slots.BadFormat version → IsFound old new (BadFormat version)
+  refused_format why fault version is = unbuilt version (subst (IsOpenSlotsFault layout old new) is fault)
+
+  pub refused_slot : (why : OpenSlots) → IsOpenSlotsFault layout old new why → (block place : ℕ) → why ≡ open_slots.Damaged block place → IsFound old new (Damaged block place)
+  refused_slot why fault block place is = damaged block place (subst (IsOpenSlotsFault layout old new) is fault)
 
 -- ---- the data blocks of a table
 

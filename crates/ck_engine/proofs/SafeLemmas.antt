@@ -2,11 +2,11 @@
 use Rattle.std.proofs.Common.{◌≡◌, ◌≢◌, ◌⊎◌, inl, inr, ⊎_elim, ℕ, ◌+◌, ◌-◌, ◌*◌, ◌≤◌, ◌||◌, Bool, true, false, not, None, IsTrue, List, [], set, length, get_or, if◌then◌else◌, refl, sym, ap, subst, ◌∙◌, arith, get_or-set_other, length-set}
 use mathlib.Core.Bool.{false≢true}
 use Rattle.std.specs.FinMap as map
-use Rattle.ck_disk.specs.Disk.{Image, Meaning, Agrees, Outside, Lawful, LeavesOnly, IsSynced}
-use Rattle.ck_log.specs.Layout.{Layout, table_blocks, base_of}
+use Rattle.ck_disk.specs.Disk.{Image, Meaning, Agrees, Lawful, LeavesOnly, IsSynced}
+use Rattle.ck_log.specs.Layout.{Layout, OutsideGateAndAreas, table_blocks, base_of}
 use Rattle.ck_log.specs.Header.{Opens as OpensAt}
 use Rattle.ck_log.specs.Images.{recovered_region, table_on, names_second, HasBefore, HasAfter, Settled, CommitLeaves}
-use Rattle.ck_log.proofs.AreaLaws.{area_low, area_high}
+use Rattle.ck_log.proofs.AreaLaws.{area_low, area_high, outside_both}
 use Rattle.ck_log.proofs.RecoveryLaws.{recovered_region-set, table_on-set, recovered_region-gate, recovered_region-settled}
 use Rattle.ck_alloc.specs.Blocks.{Allocation, IsFree}
 use Rattle.ck_model.specs.Table.{Table}
@@ -41,7 +41,7 @@ module _ (layout : Layout) (t : Table) (ours : IsOurs t) (blocks : t.blocks ≡ 
   pub written-built : is_unbuilt (slots_for layout t) ≡ false
   written-built = built_written (32 * table_blocks layout.records) t (λ id f has.
       let plain = ours.plain id f has in
-      (λ i. plain.gone i || not (plain.keeps i) || plain.stays i))
+      (λ i. not (plain.keeps i) || plain.stays i))
 
   pub written-undamaged : damage layout.blocks layout.records (slots_for layout t) ≡ None
   written-undamaged = (λ i. damage (sym blocks i) (sym records i) (slots_for layout t)) ∙ undamaged_written (32 * table_blocks layout.records) t ours.lawful ours.sound ours.sized
@@ -133,10 +133,10 @@ reads-safe layout t old new reads safe = record {
 -- ---- a commit
 
 -- data blocks stand outside the gate and the areas
-named_outside : (layout : Layout) (t : Table) (k : ℕ) → IsNamedAt layout t k → Outside 1 (base_of layout.records - 1) k
-named_outside layout t k at = inr (omega (arith, at.place, base_high layout.records))
+named_outside : (layout : Layout) (t : Table) (k : ℕ) → IsNamedAt layout t k → OutsideGateAndAreas layout.records k
+named_outside layout t k at = outside_both layout.records k (inr (omega (arith, at.place, base_high layout.records)))
 
-agrees_named : (layout : Layout) (t : Table) (d c : Image) → Agrees (Outside 1 (base_of layout.records - 1)) d c → Agrees (IsNamedAt layout t) d c
+agrees_named : (layout : Layout) (t : Table) (d c : Image) → Agrees (OutsideGateAndAreas layout.records) d c → Agrees (IsNamedAt layout t) d c
 agrees_named layout t d c same = record { size = same.size; at = λ k at. same.at k (named_outside layout t k at) }
 
 -- the image as it holds a table in the area that its own gate names
@@ -149,14 +149,15 @@ pub commit-recovers : (layout : Layout) (safe_table t : Table) (after : Image) (
     → IsSafe layout safe_table old → AreSlots after (slots_for layout t) → (image : Image) → CommitLeaves layout after old image
     → Recovers image (world_on (store_on old.shows (base_of layout.records)) map.empty safe_table) ⊎ Recovers image (world_on (store_on old.shows (base_of layout.records)) map.empty t)
 commit-recovers layout safe_table t after old law told ours blocks records safe slots image leaves =
-    let K = Outside 1 (base_of layout.records - 1) in
+    let K = OutsideGateAndAreas layout.records in
+    let header : K 0 = outside_both layout.records 0 (inl (omega arith)) in
     let shown = law.shown told in
     let there = safe.table old.shows shown in
     ⊎_elim
     (λ (has : HasBefore layout (table_on layout old.shows) old.may_leave image).
     let d = has.others.0 in
     let holds : HoldsTable (gated layout image) safe_table image = record {
-      region = recovered_region-gate layout K d image (inl (omega arith)) has.others.2 (safe.table d has.others.1).region;
+      region = recovered_region-gate layout K d image header has.others.2 (safe.table d has.others.1).region;
       area = there.area;
       slots = subst (λ blocks. AreSlots blocks there.area) (sym has.table) there.slots;
       built = there.built;
@@ -169,7 +170,7 @@ commit-recovers layout safe_table t after old law told ours blocks records safe 
     inl (holds-recovers (gated layout image) safe_table old.shows image holds (agrees_gated layout safe_table old.shows image (names_second image) agrees)))
     (λ (has : HasAfter layout after old.shows image).
     let holds : HoldsTable (gated layout image) t image = record {
-      region = recovered_region-gate layout K old.shows image (inl (omega arith)) has.others there.region;
+      region = recovered_region-gate layout K old.shows image header has.others there.region;
       area = slots_for layout t;
       slots = subst (λ blocks. AreSlots blocks (slots_for layout t)) (sym has.table) slots;
       built = written-built layout t ours blocks records;
@@ -188,13 +189,14 @@ pub commit-safe : (layout : Layout) (second : Bool) (safe_table t : Table) (afte
     → table_on layout new.shows ≡ after → Settled (record layout { second = second }) new → IsSynced new → IsSafe (record layout { second = second }) t new
 commit-safe layout second safe_table t after old new law new_law told new_told ours blocks records safe slots leaves shown settled synced = record {
   table = λ image left.
-      let K = Outside 1 (base_of layout.records - 1) in
+      let K = OutsideGateAndAreas layout.records in
+      let header : K 0 = outside_both layout.records 0 (inl (omega arith)) in
       let has = settled new_told image left in
       let there = safe.table old.shows (law.shown told) in
       let gate : recovered_region image ≡ OpensAt (gated layout image) =
       ⊎_elim
-      (λ (before : HasBefore layout (table_on layout old.shows) old.may_leave image). recovered_region-gate layout K before.others.0 image (inl (omega arith)) before.others.2 (safe.table before.others.0 before.others.1).region)
-      (λ (behind : HasAfter layout after old.shows image). recovered_region-gate layout K old.shows image (inl (omega arith)) behind.others there.region)
+      (λ (before : HasBefore layout (table_on layout old.shows) old.may_leave image). recovered_region-gate layout K before.others.0 image header before.others.2 (safe.table before.others.0 before.others.1).region)
+      (λ (behind : HasAfter layout after old.shows image). recovered_region-gate layout K old.shows image header behind.others there.region)
       (leaves.each image (new_law.counts_now old.moment image leaves.later left) told) in
       record {
         region = recovered_region-settled layout second (table_on layout new.shows) image gate has;

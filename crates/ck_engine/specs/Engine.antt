@@ -14,8 +14,10 @@ use Rattle.ck_data.specs.declared.fault.Fault.TheVariants as fault
 use Rattle.ck_engine.specs.declared.engine.Engine.{Engine}
 use Rattle.ck_engine.specs.Committed.{Keeps, OpensToEither}
 use Rattle.ck_data.specs.Device.{store_on}
+use Rattle.ck_files.specs.Allocated.{KeepsBusy}
 use Rattle.ck_files.specs.Files.{AreFiles}
 use Rattle.ck_files.specs.Reports.{limits_of}
+use Rattle.ck_files.specs.Worlds.{StandAlike}
 
 -- the device
 abbrev pub disk_of : {D : Type 0} → Engine D → D
@@ -58,6 +60,15 @@ KeepsWorld m engine w = Keeps (layout_of engine) engine.blocks m w
 
 abbrev pub no_memory : Fault
 no_memory = fault.NoMemory
+
+-- a step that nobody sees: the device isn't called, and the table stands for the same world over every device
+pub record IsUnnoticed {D : Type 0} (before after : Engine D) : Type 0 where
+  pub disk : disk_of after ≡ disk_of before
+  pub layout : layout_of after ≡ layout_of before
+  pub mounts : mounts_of after ≡ mounts_of before
+  pub alike : StandAlike (table_of before) (table_of after)
+  pub files : AreFiles (limits_of (table_of before)) (table_of after) (blocks_of after)
+  pub busy : KeepsBusy (blocks_of before) (blocks_of after)
 
 -- ---- what a call leaves on the device
 

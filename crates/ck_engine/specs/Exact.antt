@@ -1,9 +1,9 @@
 -- An image that has a world, and nothing beside it.
-use Rattle.std.specs.Prelude.{◌≡◌, ℕ, false, Some}
+use Rattle.std.specs.Prelude.{◌≡◌}
 use Rattle.std.specs.FinMap as map
 use Rattle.ck_disk.specs.Disk.{Image}
 use Rattle.ck_log.specs.Layout.{Layout, base_of}
-use Rattle.ck_model.specs.declared.checkpoint.Fileset.{Fileset}
+use Rattle.ck_model.specs.Placed.{NoneGone}
 use Rattle.ck_model.specs.World.{World}
 use Rattle.ck_model.specs.Space.{held, records_in}
 use Rattle.ck_model.specs.TableWorld.{world_on, extent_count}
@@ -20,4 +20,4 @@ pub record IsExact (w : World) (image : Image) : Type 0 where
   pub world : world_on (store_on image (base_of layout.records)) map.empty table ≡ w
   pub records : record_count table ≡ records_in w
   pub blocks : extent_count table ≡ held w
-  pub standing : (id : ℕ) (fileset : Fileset) → map.get table.filesets id ≡ Some fileset → fileset.gone ≡ false
+  pub standing : NoneGone table

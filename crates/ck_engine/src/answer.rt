@@ -12,6 +12,7 @@ ghost use Rattle.ck_files.specs.Allocated.{KeepsBusy};
 ghost use Rattle.ck_files.specs.Built.{IsBuilt, IsQuiet};
 ghost use Rattle.ck_files.specs.Files.{AreFiles};
 ghost use Rattle.ck_files.specs.Freeze.{Freezes};
+ghost use Rattle.ck_files.specs.Removal.{Removes};
 ghost use Rattle.ck_push.specs.Growth.{gains, losses, write_count};
 ghost use Rattle.ck_tree.specs.Plan.{IsPlan};
 ghost use Rattle.ck_model.specs.FileCalls.{IsChanging, changed_by};
@@ -23,7 +24,9 @@ ghost use Rattle.ck_data.specs.Writes.{IsWritingFault};
 use crate::engine::Engine;
 use ck_data::{Fault, apply_planned, cread, read};
 use ck_disk::Disk;
-use ck_files::{Planned, ckpts, cls, create, info, ls, mount, plan_changes, stat, umount, used};
+use ck_files::{
+    Planned, ckpts, cls, create, drain, info, ls, mount, plan_changes, remove, stat, umount, used,
+};
 use ck_model::{Call, Change, NoMemory, Path, Reply};
 use std::alloc::Global;
 
@@ -80,7 +83,7 @@ impl<D: Disk> Engine<D> {
         ensures fault { IfErr result (IsWritingFault (D.means (disk_of self.old)) (D.means (disk_of self.new))) }
     {
         let limits = self.limits();
-        match plan_changes(alloc, &self.slots, &self.blocks, limits, call)? {
+        match plan_changes(alloc, &mut self.slots, &mut self.blocks, limits, call)? {
             Planned::Answered(reply) => Ok(reply),
             Planned::Changes(mut changes, writes) => {
                 self.change_planned(alloc, call, &mut changes, writes)
@@ -166,6 +169,7 @@ impl<D: Disk> Engine<D> {
             ≡ answered_with reply (world_on store (mounts_of self.new) (table_of self.new))) }
         ensures ordinary { IfOk result (λ reply. is_fault reply ≡ false) }
         ensures freezes { IfOk result (λ reply. Freezes call.now moment reply (table_of self.old) (table_of self.new)) }
+        ensures removes { IfOk result (λ reply. Removes call.now reply (table_of self.old) (table_of self.new)) }
         ensures err_table { OnErr result (table_of self.new ≡ table_of self.old) }
         ensures err_mounts { OnErr result (mounts_of self.new ≡ mounts_of self.old) }
     {
@@ -176,11 +180,19 @@ impl<D: Disk> Engine<D> {
             Call::Clist(letter, path) => {
                 cls(alloc, &self.slots, &self.mounts, actor, *letter, path)
             }
-            Call::Create(name, _, _) => Ok(create(&mut self.slots, limits, name, moment)),
+            Call::Create(name, _, _) => Ok(create(
+                &mut self.slots,
+                &mut self.blocks,
+                limits,
+                name,
+                moment,
+            )),
+            Call::Remove(name) => Ok(remove(&mut self.slots, name)),
             Call::Mount(letter, name) => mount(&self.slots, &mut self.mounts, actor, *letter, name),
             Call::Umount(letter) => Ok(umount(&mut self.mounts, actor, *letter)),
             Call::Ckpts => ckpts(alloc, &self.slots),
             Call::Info => {
+                drain(&mut self.slots, &mut self.blocks);
                 let used = used(&self.slots, &self.blocks, limits);
                 Ok(info(&self.slots, limits, used))
             }
@@ -199,6 +211,7 @@ impl<D: Disk> Engine<D> {
             ≡ answered_with reply (world_of (D.means (disk_of self.new)).shows self.new)) }
         ensures ordinary { IfOk result (λ reply. is_fault reply ≡ false) }
         ensures freezes { IfOk result (λ reply. Freezes call.now moment reply (table_of self.old) (table_of self.new)) }
+        ensures removes { IfOk result (λ reply. Removes call.now reply (table_of self.old) (table_of self.new)) }
         ensures err { OnErr result (world_of (D.means (disk_of self.new)).shows self.new ≡ world_of (D.means (disk_of self.old)).shows self.old) }
         ensures fault { IfErr result (λ fault. fault ≡ no_memory) }
     {
@@ -225,6 +238,7 @@ impl<D: Disk> Engine<D> {
             ≡ answered_with reply (world_of (D.means (disk_of self.new)).shows self.new)) }
         ensures ordinary { IfOk result (λ reply. is_fault reply ≡ false) }
         ensures freezes { IfOk result (λ reply. Freezes call.now moment reply (table_of self.old) (table_of self.new)) }
+        ensures removes { IfOk result (λ reply. Removes call.now reply (table_of self.old) (table_of self.new)) }
         ensures err { OnErr result (IsTrue (D.means (disk_of self.old)).tells → world_of (D.means (disk_of self.new)).shows self.new ≡ world_of (D.means (disk_of self.old)).shows self.old) }
         ensures fault { IfErr result (IsWritingFault (D.means (disk_of self.old)) (D.means (disk_of self.new))) }
 

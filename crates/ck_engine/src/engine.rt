@@ -2,13 +2,14 @@ ghost use Rattle.std.specs.Prelude.{◌≡◌, ◌≢◌, ◌+◌, ◌≤◌, Is
 ghost use Rattle.std.specs.FinSet as set;
 ghost use Rattle.ck_disk.specs.Disk.{Image};
 ghost use Rattle.ck_alloc.specs.Blocks.{free_count};
+ghost use Rattle.ck_model.specs.Placed.{NoneGone};
 ghost use Rattle.ck_model.specs.World.{World, unmounted};
 ghost use Rattle.ck_model.specs.TableWorld.{extent_count};
 ghost use Rattle.ck_files.specs.Reports.{limits_of};
 ghost use Rattle.ck_data.specs.declared.fault.Fault.TheVariants as fault;
 ghost use Rattle.ck_data.specs.Writes.{IsWritingFault};
 ghost use Rattle.ck_engine.specs.Exact.{IsExact};
-ghost use Rattle.ck_engine.specs.Engine.{disk_of, mounts_of, blocks_of, table_of, layout_of, data_of, world_of, IsWhole, KeepsWorld, GoesOnOrBreaks, IsAttempt};
+ghost use Rattle.ck_engine.specs.Engine.{disk_of, mounts_of, blocks_of, table_of, layout_of, data_of, world_of, IsWhole, KeepsWorld, GoesOnOrBreaks, IsAttempt, no_memory};
 
 use ck_alloc::Blocks;
 use ck_data::{DataArea, Fault};
@@ -46,8 +47,11 @@ impl<D: Disk> Engine<D> {
         ensures fault { IfErr result (IsWritingFault (D.means (disk_of self.old)) (D.means (disk_of self.new))) }
         ensures no_read { IfErr result (λ why. why ≢ fault.ReadFault) }
 
-        // Afterwards a crash leaves the present world, and nothing beside it.
-        ensures exact { OnOk result (IsTrue (D.means (disk_of self.old)).tells → (w : World) → KeepsWorld (D.means (disk_of self.old)) self.old w
+        // Refused memory leaves it as it was: the device isn't called.
+        ensures no_memory { IfErr result (λ why. why ≡ no_memory → self.new ≡ self.old) }
+
+        // Afterwards a crash leaves the present world, and nothing beside it where no checkpoint is gone.
+        ensures exact { NoneGone (table_of self.old) → OnOk result (IsTrue (D.means (disk_of self.old)).tells → (w : World) → KeepsWorld (D.means (disk_of self.old)) self.old w
             → (image : Image) → (D.means (disk_of self.new)).may_leave image → IsExact (unmounted (world_of (D.means (disk_of self.new)).shows self.new)) image) }
     {
         match self.slots.commit(alloc, &mut self.region, &mut self.disk) {

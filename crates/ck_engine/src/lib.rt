@@ -2,6 +2,7 @@
 #![tactic(auto)]
 
 mod answer;
+mod background;
 mod engine;
 mod format;
 mod open;

@@ -19,15 +19,15 @@ use Rattle.ck_model.specs.Table.{Table, IsTable, record_count}
 use Rattle.ck_model.specs.Rules.{IsSound, KeyBelow, SmallBelow, HeldBelow, stamp_in, block_in}
 use Rattle.ck_model.specs.Values.{Store}
 use Rattle.ck_model.specs.TableWorld.{world_on}
-use Rattle.ck_model.proofs.CountLaws.{records_are}
+use Rattle.ck_model.specs.Placed.{NoneGone}
 use Rattle.ck_push.specs.Growth.{gains, losses, write_count}
-use Rattle.ck_files.specs.Plain.{IsOurs}
+use Rattle.ck_files.specs.Plain.{IsOurs, IsPlain}
 use Rattle.ck_files.specs.Room.{Grows, has_room, lack_of_room, answered_with}
 use Rattle.ck_files.specs.Changes.{raised, IsRaised, with_changes}
 use Rattle.ck_push.specs.Changes.{MayChangeAll, changed_all, AreMade}
 use Rattle.ck_files.proofs.WorldLaws.{world_same}
 use Rattle.ck_files.specs.Allocated.{SameNamed}
-use Rattle.ck_files.proofs.RoomLaws.{none_gone, room-is}
+use Rattle.ck_files.proofs.RoomLaws.{no_room-is, records-is, records-within, room-is, room_of}
 use Rattle.ck_push.proofs.ChangeLaws.{are_made}
 use Rattle.ck_files.proofs.WorldAfter.{world_changed_all}
 use Rattle.ck_files.proofs.NewBlocks.{new-is}
@@ -105,24 +105,24 @@ module _ (store other : Store) (mounts : Mounts) (t : Table) (counters : Counter
   leads : record (world_on other mounts (raised t counters blocks)) { primary = with_changes other (world_on other mounts t).primary items t.counters.stamp } ≡ world_on other mounts u
   leads = sym (world_changed_all other mounts (raised t counters blocks) items t.counters.stamp (raised_lawful t counters blocks ours.lawful up) (raised_sound t counters blocks ours.sound up) ours.plain more may)
 
-  -- its records
-  led_records : records_in led ≡ record_count u
-  led_records =
-      ap (λ (x : World). records_in (record x { primary = with_changes other x.primary items t.counters.stamp })) stood
-      ∙ ap records_in leads
-      ∙ sym (records_are other mounts u made.lawful made.sound (none_gone u (λ id f is. ours.plain id f (ap (λ m. map.get m id) (sym made.filesets) ∙ is))))
+  led_world : records_in led ≡ records_in (world_on other mounts u)
+  led_world = ap (λ (x : World). records_in (record x { primary = with_changes other x.primary items t.counters.stamp })) stood ∙ ap records_in leads
 
-  pub led_grows : Grows (record_count t) (records_in led) (gains t items - losses t items)
-  led_grows = subst (λ n. Grows (record_count t) n (gains t items - losses t items)) (sym led_records) (grows_by (record_count t) (record_count u) (gains t items) (losses t items) made.counted)
+  plain_after : IsPlain u
+  plain_after id f is = ours.plain id f (ap (λ m. map.get m id) (sym made.filesets) ∙ is)
+
+  -- its records
+  led_records : NoneGone t → records_in led ≡ record_count u
+  led_records none = led_world ∙ records-is other mounts u made.lawful made.sound (λ id f is. none id f (ap (λ m. map.get m id) (sym made.filesets) ∙ is))
+
+  led_within : records_in led ≤ record_count u
+  led_within = let same = led_world in let most = records-within other mounts u made.lawful made.sound plain_after in omega (arith, same, most)
+
+  led_grows : NoneGone t → Grows (record_count t) (records_in led) (gains t items - losses t items)
+  led_grows none = subst (λ n. Grows (record_count t) n (gains t items - losses t items)) (sym (led_records none)) (grows_by (record_count t) (record_count u) (gains t items) (losses t items) made.counted)
 
   new_is : new_block_count t.counters.stamp led.primary ≡ write_count items
   new_is = new-is store t ours.sound other (raised t counters blocks) items may
-
-  -- what the call is answered
-  pub changing-is : changing w (Ok led) ≡ (if has_room t (write_count items) (gains t items - losses t items) then answered_with Done led else answered_with (lack_of_room t (write_count items) (gains t items - losses t items)) w)
-  changing-is =
-      ap (λ n. with_room w (λ left. record led { checkpoints = left.checkpoints }) n Done) new_is
-      ∙ room-is store mounts t ours led (write_count items) (gains t items - losses t items) led_grows (λ left. record led { checkpoints = left.checkpoints }) Done refl
 
   -- where its changes are made over these data blocks, that world is the table's
   pub led-is : blocks ≡ t.blocks → led ≡ world_on other mounts u
@@ -132,12 +132,12 @@ module _ (store other : Store) (mounts : Mounts) (t : Table) (counters : Counter
       ∙ leads
 
   -- it has no room
-  pub changing-full : (b r : ℕ) (reply : Reply) → b ≡ write_count items → r ≡ gains t items - losses t items → has_room t b r ≡ false → reply ≡ lack_of_room t b r
+  pub changing-full : NoneGone t → (b r : ℕ) (reply : Reply) → b ≡ write_count items → r ≡ gains t items - losses t items → has_room t b r ≡ false → reply ≡ lack_of_room t b r
       → changing w (Ok led) ≡ answered_with reply w
-  changing-full b r reply bs rs full is =
+  changing-full gone b r reply bs rs full is =
       let none : has_room t (write_count items) (gains t items - losses t items) ≡ false = (λ i. has_room t (sym bs i) (sym rs i)) ∙ full in
-      changing-is
-      ∙ ap (λ x. if x then answered_with Done led else answered_with (lack_of_room t (write_count items) (gains t items - losses t items)) w) none
+      ap (λ n. with_room w (λ left. record led { checkpoints = left.checkpoints }) n Done) new_is
+      ∙ no_room-is store mounts t ours gone led (write_count items) (gains t items - losses t items) (led_grows gone) (λ left. record led { checkpoints = left.checkpoints }) Done refl none
       ∙ (λ i. answered_with (lack_of_room t (sym bs i) (sym rs i)) w)
       ∙ ap (λ x. answered_with x w) (sym is)
 
@@ -145,7 +145,14 @@ module _ (store other : Store) (mounts : Mounts) (t : Table) (counters : Counter
   pub changing-fits : (b r : ℕ) (after : Table) → b ≡ write_count items → r ≡ gains t items - losses t items → has_room t b r ≡ true → blocks ≡ t.blocks → after ≡ u
       → changing w (Ok led) ≡ answered_with Done (world_on other mounts after)
   changing-fits b r after bs rs room fixed is =
-      let there : has_room t (write_count items) (gains t items - losses t items) ≡ true = (λ i. has_room t (sym bs i) (sym rs i)) ∙ room in
-      changing-is
-      ∙ ap (λ x. if x then answered_with Done led else answered_with (lack_of_room t (write_count items) (gains t items - losses t items)) w) there
+      let there = room_of t (write_count items) (gains t items - losses t items) ((λ i. has_room t (sym bs i) (sym rs i)) ∙ room) in
+      let counted = made.counted in
+      let most = led_within in
+      let fits = ours.sized.fits in
+      let records = there.1 in
+      ap (λ n. with_room w (λ left. record led { checkpoints = left.checkpoints }) n Done) new_is
+      ∙ room-is store mounts t ours led (write_count items) there.0 (within (gains t items) (losses t items) (record_count t) (record_count u) (records_in led) t.records counted most fits records) (λ left. record led { checkpoints = left.checkpoints }) Done refl
       ∙ ap (answered_with Done) (led-is fixed ∙ ap (world_on other mounts) (sym is))
+    where
+      within : (gain loss before after led limit : ℕ) → after + loss ≡ before + gain → led ≤ after → before ≤ limit → before + (gain - loss) ≤ limit → led ≤ limit
+      within gain loss before after led limit counted most fits records = omega (arith, counted, most, fits, records)

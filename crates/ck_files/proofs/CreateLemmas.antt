@@ -32,10 +32,10 @@ use Rattle.ck_model.specs.Table.{Table, IsTable, column, record_count, spare_cou
 use Rattle.ck_model.specs.Chain.{present, value_of, value_at, is_live, live_ids, as_mark, seen}
 use Rattle.ck_model.specs.Rules.{IsSound}
 use Rattle.ck_model.specs.Values.{Store, cell_on, cells_on}
-use Rattle.ck_model.specs.TableWorld.{values_of, checkpoint_on, checkpoints_on, world_on, extents_of, extent_count}
+use Rattle.ck_model.specs.TableWorld.{values_of, checkpoint_on, checkpoints_on, live_filesets, world_on, extents_of, extent_count}
 use Rattle.ck_model.specs.Limits.{checkpoint_limit}
 use Rattle.ck_model.proofs.DifferenceLaws.{len-shown_differences}
-use Rattle.ck_model.proofs.FilesetLaws.{all_found}
+use Rattle.ck_model.specs.Placed.{NoneGone}
 use Rattle.ck_model.proofs.ValueLaws.{get-values_of}
 use Rattle.ck_table.specs.declared.added.AddFault.{AddFault}
 use Rattle.ck_table.specs.declared.added.AddFault.TheVariants as fault
@@ -43,12 +43,13 @@ use Rattle.ck_table.specs.Names.{id_named}
 use Rattle.ck_table.specs.Added.{new_id, new_fileset, with_added}
 use Rattle.ck_files.specs.Freeze.{refusal_of, refused_or}
 use Rattle.ck_files.specs.Plain.{IsPlainFileset, IsPlain, IsOurs}
-use Rattle.ck_files.specs.Room.{has_room, lack_of_room, answered_with}
+use Rattle.ck_files.specs.Room.{answered_with}
 use Rattle.ck_files.specs.Places.{AreDistinct}
 use Rattle.ck_files.proofs.AllocatedLaws.{named_entry, extents_distinct}
-use Rattle.ck_files.proofs.Checkpoints.{keeps_itself, plain_live}
+use Rattle.ck_files.proofs.Checkpoints.{kept_all, seen_all, value_at_some}
+use Rattle.ck_files.proofs.LiveLemmas.{Stands, each_stands}
 use Rattle.ck_files.proofs.Listed.{any_named-is, length-is}
-use Rattle.ck_files.proofs.RoomLaws.{records-is, room-is}
+use Rattle.ck_files.proofs.RoomLaws.{no_room-is, records-is, records-within, room-is}
 use Rattle.ck_files.proofs.WorldLaws.{cells_same}
 
 -- ---- what is refused
@@ -124,44 +125,39 @@ module _ (store : Store) (mounts : Mounts) (t : Table) (ours : IsOurs t) (name :
   abbrev new : Checkpoint
   new = record { id = t.counters.id; name = name; kind = Keeping; removable = false; ctime = at; cells = w.primary }
 
-  records-more : records_in (frozen w) ≡ record_count t + 1
+  records-more : records_in (frozen w) ≡ records_in w + 1
   records-more =
-      let before = records-is store mounts t ours in
       let differ = difference_count-more w.primary w.checkpoints new refl in
       let long = length_push w.checkpoints new in
-      omega (arith, before, differ, long)
+      omega (arith, differ, long)
 
-  abbrev answer_of : Bool → ℕ → Outcome
-  answer_of fits id = if fits then answered_with (Created id) (frozen w) else answered_with (lack_of_room t 0 1) w
+  created-as : (id : ℕ) → new_id t name ≡ Ok id → created w name false false at ≡ with_room w frozen 0 (Created id)
+  created-as id is = ap created_by (new_id-is store mounts t name ours.lawful ∙ ap as_reply is)
 
-  created-is : (id : ℕ) → new_id t name ≡ Ok id → created w name false false at ≡ answer_of (has_room t 0 1) id
-  created-is id is =
-      ap created_by (new_id-is store mounts t name ours.lawful ∙ ap as_reply is)
-      ∙ room-is store mounts t ours (frozen w) 0 1 (record { by = inr records-more }) frozen (Created id) refl
-
-  blocks_fit : nat_le (extent_count t + 0) t.blocks ≡ true
-  blocks_fit = let within = extents_within t ours.sound in grind (arith, nat_tests)
-
-  pub created-full : (id : ℕ) → new_id t name ≡ Ok id → spare_count t ≡ 0 → created w name false false at ≡ answered_with (NoSpace Records t.records 1 t.records) w
-  created-full id is none =
+  created-full : NoneGone t → (id : ℕ) → new_id t name ≡ Ok id → spare_count t ≡ 0 → created w name false false at ≡ answered_with (NoSpace Records t.records 1 t.records) w
+  created-full gone id is none =
       let fits : record_count t ≤ t.records = ours.sized.fits in
       let all : record_count t ≡ t.records = omega arith in
+      let few = extents_within t ours.sound in
+      let blocks_fit : nat_le (extent_count t + 0) t.blocks ≡ true = grind (arith, nat_tests) in
       let full : nat_le (record_count t + 1) t.records ≡ false = grind (arith, nat_tests) in
-      created-is id is
-      ∙ ap (λ b. answer_of b id) ((λ i. blocks_fit i && full i))
+      created-as id is
+      ∙ no_room-is store mounts t ours gone (frozen w) 0 1 (record { by = inr (records-more ∙ ap (λ n. n + 1) (records-is store mounts t ours.lawful ours.sound gone)) }) frozen (Created id) refl (λ i. blocks_fit i && full i)
       ∙ ap (λ b. answered_with (if b then NoSpace Records (record_count t) 1 t.records else NoSpace Blocks (extent_count t) 0 t.blocks) w) blocks_fit
       ∙ ap (λ n. answered_with (NoSpace Records n 1 t.records) w) all
 
   pub created-fits : (id : ℕ) → new_id t name ≡ Ok id → 0 < spare_count t → created w name false false at ≡ answered_with (Created id) (frozen w)
   created-fits id is some =
-      let fit : nat_le (record_count t + 1) t.records ≡ true = grind (arith, nat_tests) in
-      created-is id is ∙ ap (λ b. answer_of b id) (λ i. blocks_fit i && fit i)
+      let few = extents_within t ours.sound in
+      let more = records-more in
+      let most = records-within store mounts t ours.lawful ours.sound ours.plain in
+      created-as id is ∙ room-is store mounts t ours (frozen w) 0 (omega (arith, few)) (omega (arith, more, most, some)) frozen (Created id) refl
 
   -- where no record is free
-  pub created-lack : spare_count t ≡ 0 → created w name false false at ≡ answered_with (refused_or checkpoint_limit (NoSpace Records t.records 1 t.records) (new_id t name)) w
-  created-lack none =
+  pub created-lack : NoneGone t → spare_count t ≡ 0 → created w name false false at ≡ answered_with (refused_or checkpoint_limit (NoSpace Records t.records 1 t.records) (new_id t name)) w
+  created-lack gone none =
       elim (new_id t name) as (λ r. new_id t name ≡ r → created w name false false at ≡ answered_with (refused_or checkpoint_limit (NoSpace Records t.records 1 t.records) r) w) [
-        | Ok id ↦ λ is. created-full id is none
+        | Ok id ↦ λ is. created-full gone id is none
         | Err fault ↦ λ is. created-refused fault is
       ] refl
 
@@ -186,13 +182,6 @@ put_last id v (e ∷ es) below =
     ∙ ap (λ rest. e ∷ rest) (put_last id v es (λ x there. below x
     (elim (eq_by_cmp nat_cmp x e.0) as (λ b. IsSome (cond b (Some e.1) (find nat_cmp x es))) [ true ↦ refl | false ↦ there ])))
 
-value_at_some : (t : Table) (id : ℕ) (q : Key) → 1 ≤ id → value_at t id q ≡ value_of t id q
-value_at_some t id q some = let apart : nat_eq id 0 ≡ false = grind (arith, nat_tests) in ap (λ b. cond b (present (column t q 0)) (value_of t id q)) apart
-
--- what a reader of a plain checkpoint sees is its value
-seen_value : (t : Table) (id : ℕ) (fileset : Fileset) (q : Key) → 1 ≤ id → map.get t.filesets id ≡ Some fileset → IsPlainFileset fileset → seen t id q ≡ value_of t id q
-seen_value t id fileset q some is plain = ap (λ b. if b then value_of t id q else option_map as_mark (value_of t id q)) (keeps_itself t id fileset some is plain)
-
 module _ (t : Table) (ours : IsOurs t) (name : List ℕ) (at : ℕ) where
   abbrev added : Fileset
   added = new_fileset name Keeping false at
@@ -204,7 +193,7 @@ module _ (t : Table) (ours : IsOurs t) (name : List ℕ) (at : ℕ) where
   get_added id = map.get-insert nat_cmp_total t.filesets t.counters.id added id ∙ ap (λ b. cond b (Some added) (map.get t.filesets id)) (unsigned_tied id t.counters.id)
 
   added_plain : IsPlainFileset added
-  added_plain = record { gone = refl; keeps = refl; stays = refl }
+  added_plain = record { keeps = refl; stays = refl }
 
   pub plain_added : IsPlain u
   plain_added id fileset is =
@@ -213,13 +202,6 @@ module _ (t : Table) (ours : IsOurs t) (name : List ℕ) (at : ℕ) where
         | false ↦ λ h. ours.plain id fileset h
       ] (sym (get_added id) ∙ is)
 
-  -- one that stood is there
-  get_old : (id : ℕ) (fileset : Fileset) → map.get t.filesets id ≡ Some fileset → map.get u.filesets id ≡ Some fileset
-  get_old id fileset is =
-      let below = ours.sound.orderly.ids id (ap is_some is) in
-      let other : nat_eq id t.counters.id ≡ false = grind (arith, nat_tests) in
-      get_added id ∙ ap (λ b. cond b (Some added) (map.get t.filesets id)) other ∙ is
-
   entries-added : map.entries u.filesets ≡ map.entries t.filesets ++ (t.counters.id, added) ∷ []
   entries-added =
       map.entries-insert nat_cmp_total t.filesets t.counters.id added
@@ -227,29 +209,16 @@ module _ (t : Table) (ours : IsOurs t) (name : List ℕ) (at : ℕ) where
 
   module _ (kept : (fs : ℕ) (q : Key) → is_live t fs ≡ true → seen u fs q ≡ seen t fs q)
       (contents : (q : Key) → value_of u t.counters.id q ≡ present (column t q 0)) (store : Store) where
-    kept_value : (id : ℕ) (fileset : Fileset) → map.get t.filesets id ≡ Some fileset → (q : Key) → map.get (values_of u id) q ≡ map.get (values_of t id) q
-    kept_value id fileset is q =
-        let some = (ours.lawful.filesets id fileset is).some in
-        let plain = ours.plain id fileset is in
-        get-values_of u id q ∙ value_at_some u id q some ∙ sym (seen_value u id fileset q some (get_old id fileset is) plain)
-        ∙ kept id q (plain_live t id fileset is plain)
-        ∙ seen_value t id fileset q some is plain ∙ sym (value_at_some t id q some) ∙ sym (get-values_of t id q)
+    -- one that stood stands
+    stands_still : (e : ℕ × Fileset) → Stands t e → Stands u e
+    stands_still e stands =
+        let below = ours.sound.orderly.ids e.0 (ap is_some stands.there) in
+        let other : nat_eq e.0 t.counters.id ≡ false = grind (arith, nat_tests) in
+        record { there = get_added e.0 ∙ ap (λ b. cond b (Some added) (map.get t.filesets e.0)) other ∙ stands.there; live = stands.live }
 
-    kept_checkpoint : (e : ℕ × Fileset) → map.get t.filesets e.0 ≡ Some e.1 → checkpoint_on store u e.0 e.1 ≡ checkpoint_on store t e.0 e.1
-    kept_checkpoint e is =
-        let same : cells_on store (values_of u e.0) ≡ cells_on store (values_of t e.0) = cells_same store store (values_of u e.0) (values_of t e.0) (λ q. ap (option_map (cell_on store)) (kept_value e.0 e.1 is q)) in
-        λ i. record { id = e.0; name = e.1.name; kind = e.1.kind; removable = e.1.removable; ctime = e.1.ctime; cells = shown_by e.1.kind (same i) }
-
-    kept_all : (es : List (ℕ × Fileset)) → AllByRecursion (λ e. map.get t.filesets e.0 ≡ Some e.1) es
-        → list_map (λ e. checkpoint_on store u e.0 e.1) (filter (λ e. not e.1.gone) es) ≡ list_map (λ (e : ℕ × Fileset). checkpoint_on store t e.0 e.1) (filter (λ e. not e.1.gone) es)
-    kept_all [] all = refl
-    kept_all (e ∷ es) all =
-        let rest = kept_all es all.1 in
-        elim (not e.1.gone) as (λ b. list_map (λ e. checkpoint_on store u e.0 e.1) (cond b (e ∷ filter (λ e. not e.1.gone) es) (filter (λ e. not e.1.gone) es))
-        ≡ list_map (λ (e : ℕ × Fileset). checkpoint_on store t e.0 e.1) (cond b (e ∷ filter (λ e. not e.1.gone) es) (filter (λ e. not e.1.gone) es))) [
-          | true ↦ λ i. kept_checkpoint e all.0 i ∷ rest i
-          | false ↦ rest
-        ]
+    all_still : (es : List (ℕ × Fileset)) → AllByRecursion (Stands t) es → AllByRecursion (Stands u) es
+    all_still [] all = tt
+    all_still (e ∷ es) all = (stands_still e all.0, all_still es all.1)
 
     new_cells : cells_on store (values_of u t.counters.id) ≡ cells_on store (values_of t 0)
     new_cells = cells_same store store (values_of u t.counters.id) (values_of t 0) (λ q. ap (option_map (cell_on store))
@@ -262,9 +231,8 @@ module _ (t : Table) (ours : IsOurs t) (name : List ℕ) (at : ℕ) where
     checkpoints-added =
         ap (λ es. list_map (λ e. checkpoint_on store u e.0 e.1) (filter (λ (e : ℕ × Fileset). not e.1.gone) es)) entries-added
         ∙ ap (list_map (λ e. checkpoint_on store u e.0 e.1)) (filter-append (λ (e : ℕ × Fileset). not e.1.gone) (map.entries t.filesets) ((t.counters.id, added) ∷ []))
-        ∙ map-append (λ e. checkpoint_on store u e.0 e.1) (filter (λ (e : ℕ × Fileset). not e.1.gone) (map.entries t.filesets)) ((t.counters.id, added) ∷ [])
-        ∙ (λ i. kept_all (map.entries t.filesets)
-        (all_found nat_cmp_total nat_cmp-IsAntisymmetric (λ e. map.get t.filesets e.0 ≡ Some e.1) (map.entries t.filesets) (entries_sorted t.filesets) (λ id f found. map.get-entries t.filesets id ∙ found)) i
+        ∙ map-append (λ e. checkpoint_on store u e.0 e.1) (live_filesets t) ((t.counters.id, added) ∷ [])
+        ∙ (λ i. kept_all store t u (live_filesets t) (seen_all t u ours.lawful ours.plain kept (live_filesets t) (each_stands t) (all_still (live_filesets t) (each_stands t))) i
         ++ newest (new_cells i) ∷ [])
 
     -- the table with the new checkpoint stands for the world with it

@@ -9,7 +9,7 @@ use Rattle.ck_model.specs.TableWorld.{values_of, world_on}
 use Rattle.ck_model.specs.Table.{Table, record_count}
 use Rattle.ck_model.specs.Values.{Store, cells_on}
 use Rattle.ck_files.specs.Plain.{IsOurs}
-use Rattle.ck_files.proofs.RoomLaws.{records-is}
+use Rattle.ck_files.proofs.RoomLaws.{records-within}
 
 one_more : {Y : Type 0} (o : Option Y) (ys : List Y) → length (cons_option o ys) ≤ 1 + length ys
 one_more None ys = omega arith
@@ -25,7 +25,7 @@ names-few store t ours node =
     let cells : Cells = cells_on store (values_of t 0) in
     let few : length (children cells node) ≤ length (map.entries cells) = given_few (child_in cells node) (map.entries cells) in
     let entries : map.len cells ≡ length (map.entries cells) = map.len-entries cells in
-    let records : records_in (world_on store map.empty t) ≡ record_count t = records-is store map.empty t ours in
+    let records : records_in (world_on store map.empty t) ≤ record_count t = records-within store map.empty t ours.lawful ours.sound ours.plain in
     let fits : record_count t ≤ t.records = ours.sized.fits in
     let limit : t.records ≤ 262144 = ours.sized.records in
     omega (arith, few, entries, records, fits, limit)

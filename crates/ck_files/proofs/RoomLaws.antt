@@ -2,10 +2,8 @@
 use Rattle.std.proofs.Common.{◌≡◌, ℕ, zero, suc, ◌+◌, ◌-◌, ◌≤◌, Bool, true, false, not, cond, ◌&&◌, IsSome, is_some, if◌then◌else◌, List, [], ◌∷◌, map as list_map, find, length, Option, Some, None, nat_le, refl, sym, ap, ◌∙◌, inl, inr, arith}
 use Rattle.std.specs.Option.{option_or, option_map, option_map_or}
 use Rattle.std.specs.List.{AllByRecursion}
-use Rattle.std.specs.FinMap.{nat_cmp-IsAntisymmetric, entries_sorted}
 use Rattle.std.specs.FinMap as map
 use Rattle.std.proofs.lemmas.Bool.Decides.{nat_tests}
-use Rattle.std.proofs.lemmas.Cmp.{nat_cmp_total}
 use mathlib.Core.Bool.{false≢true}
 use Rattle.ck_model.specs.declared.reply.Reply.{Reply}
 use Rattle.ck_model.specs.declared.reply.Reply.TheVariants.{NoSpace}
@@ -17,33 +15,52 @@ use Rattle.ck_model.specs.Step.{Outcome, with_room}
 use Rattle.ck_model.specs.Table.{Table, IsTable, record_count}
 use Rattle.ck_model.specs.Rules.{IsSound}
 use Rattle.ck_model.specs.Values.{Store}
-use Rattle.ck_model.specs.TableWorld.{checkpoint_on, checkpoints_on, world_on, extent_count}
-use Rattle.ck_model.proofs.FilesetLaws.{all_found}
-use Rattle.ck_model.proofs.CountLaws.{records_are, extents_are, live_all}
+use Rattle.ck_model.specs.TableWorld.{checkpoint_on, live_filesets, world_on, extent_count}
+use Rattle.ck_model.proofs.CountLaws.{records_are, extents_are}
+use Rattle.ck_model.proofs.CaseLaws.{some_is}
+use Rattle.ck_remove.proofs.DrainLaws.{drained}
+use Rattle.ck_remove.proofs.WorldLaws.{unseen_world}
 use Rattle.ck_model.specs.Placed.{NoneGone, AllStripped}
 use Rattle.ck_files.specs.Plain.{IsPlain, IsOurs}
 use Rattle.ck_files.specs.Room.{Grows, has_room, lack_of_room, answered_with}
 use Rattle.ck_files.proofs.Checkpoints.{keeps_itself}
+use Rattle.ck_files.proofs.LiveLemmas.{Stands, each_stands}
+use Rattle.ck_files.proofs.UnseenLemmas.{plain_unseen}
 
-pub none_gone : (t : Table) → IsPlain t → NoneGone t
-none_gone t plain id fileset is = (plain id fileset is).gone
-
-some_is : {X : Type 0} (o : Option X) → IsSome o → (x : X) × (o ≡ Some x)
-some_is None h = absurd (false≢true h)
-some_is (Some x) h = (x, refl)
-
-pub all_stripped : (t : Table) → IsTable t → IsSound t → IsPlain t → AllStripped t
-all_stripped t lawful sound plain fs key stamp block has = elim (sound.orderly.homes fs key (ap is_some has)) [
+pub all_stripped : (t : Table) → IsTable t → IsSound t → IsPlain t → NoneGone t → AllStripped t
+all_stripped t lawful sound plain none fs key stamp block has = elim (sound.orderly.homes fs key (ap is_some has)) [
   | inl first ↦ inl first
-  | inr there ↦ let f = some_is (map.get t.filesets fs) there in inr (keeps_itself t fs f.0 (lawful.filesets fs f.0 f.1).some f.1 (plain fs f.0 f.1))
+  | inr there ↦
+      let f = some_is (map.get t.filesets fs) there in
+      inr (keeps_itself t (fs, f.0) (lawful.filesets fs f.0 f.1).some (record { there = f.1; live = none fs f.0 f.1 }) (plain fs f.0 f.1))
 ]
 
--- the records and data blocks of a volume's table are those of its world
-pub held-is : (store : Store) (mounts : Mounts) (t : Table) → IsOurs t → held (world_on store mounts t) ≡ extent_count t
-held-is store mounts t ours = sym (extents_are store mounts t ours.lawful ours.sound (none_gone t ours.plain) (all_stripped t ours.lawful ours.sound ours.plain))
+-- where no checkpoint is gone, the records and data blocks of a volume's table are those of its world
+pub held-is : (store : Store) (mounts : Mounts) (t : Table) → IsTable t → IsSound t → IsPlain t → NoneGone t → held (world_on store mounts t) ≡ extent_count t
+held-is store mounts t lawful sound plain none = sym (extents_are store mounts t lawful sound none (all_stripped t lawful sound plain none))
 
-pub records-is : (store : Store) (mounts : Mounts) (t : Table) → IsOurs t → records_in (world_on store mounts t) ≡ record_count t
-records-is store mounts t ours = sym (records_are store mounts t ours.lawful ours.sound (none_gone t ours.plain))
+pub records-is : (store : Store) (mounts : Mounts) (t : Table) → IsTable t → IsSound t → NoneGone t → records_in (world_on store mounts t) ≡ record_count t
+records-is store mounts t lawful sound none = sym (records_are store mounts t lawful sound none)
+
+-- elsewhere they may be more: those of what is gone
+module _ (store : Store) (mounts : Mounts) (t : Table) (lawful : IsTable t) (sound : IsSound t) (plain : IsPlain t) where
+  pub held-within : held (world_on store mounts t) ≤ extent_count t
+  held-within =
+      let u = drained t lawful sound in
+      let is = u.1 in
+      let same = ap held (unseen_world t u.0 lawful is.lawful is.unseen store mounts) in
+      let counted = held-is store mounts u.0 is.lawful is.sound (plain_unseen t u.0 plain is.unseen) is.none in
+      let less = is.unseen.extents in
+      omega (arith, same, counted, less)
+
+  pub records-within : records_in (world_on store mounts t) ≤ record_count t
+  records-within =
+      let u = drained t lawful sound in
+      let is = u.1 in
+      let same = ap records_in (unseen_world t u.0 lawful is.lawful is.unseen store mounts) in
+      let counted = records-is store mounts u.0 is.lawful is.sound is.none in
+      let less = is.unseen.records in
+      omega (arith, same, counted, less)
 
 -- ---- none is given up
 
@@ -54,12 +71,14 @@ none_removable store t keeps (e ∷ es) all =
     ap (λ b. cond (b && (if keeps then keeps_files e.1.kind else not (keeps_files e.1.kind))) (Some (checkpoint_on store t e.0 e.1)) (find (λ (checkpoint : Checkpoint). checkpoint.removable && (if keeps then keeps_files checkpoint.kind else not (keeps_files checkpoint.kind))) (list_map (λ e. checkpoint_on store t e.0 e.1) es))) all.0
     ∙ none_removable store t keeps es all.1
 
-pub pick-none : (store : Store) (mounts : Mounts) (t : Table) → IsOurs t → pick (world_on store mounts t) ≡ None
-pick-none store mounts t ours =
-    let live : checkpoints_on store t ≡ list_map (λ e. checkpoint_on store t e.0 e.1) (map.entries t.filesets) = ap (list_map (λ e. checkpoint_on store t e.0 e.1)) (live_all t ours.lawful ours.sound (none_gone t ours.plain)) in
-    let each = all_found nat_cmp_total nat_cmp-IsAntisymmetric (λ (e : ℕ × Fileset). e.1.removable ≡ false) (map.entries t.filesets) (entries_sorted t.filesets) (λ id f found. (ours.plain id f (map.get-entries t.filesets id ∙ found)).stays) in
-    ap (λ cs. option_or (oldest_removable true cs) (oldest_removable false cs)) live
-    ∙ (λ i. option_or (option_map (λ (checkpoint : Checkpoint). checkpoint.id) (none_removable store t true (map.entries t.filesets) each i)) (option_map (λ (checkpoint : Checkpoint). checkpoint.id) (none_removable store t false (map.entries t.filesets) each i)))
+none_of_live : (t : Table) → IsPlain t → (es : List (ℕ × Fileset)) → AllByRecursion (Stands t) es → AllByRecursion (λ (e : ℕ × Fileset). e.1.removable ≡ false) es
+none_of_live t plain [] all = tt
+none_of_live t plain (e ∷ es) all = ((plain e.0 e.1 all.0.there).stays, none_of_live t plain es all.1)
+
+pub pick-none : (store : Store) (mounts : Mounts) (t : Table) → IsPlain t → pick (world_on store mounts t) ≡ None
+pick-none store mounts t plain =
+    let each = none_of_live t plain (live_filesets t) (each_stands t) in
+    (λ i. option_or (option_map (λ (checkpoint : Checkpoint). checkpoint.id) (none_removable store t true (live_filesets t) each i)) (option_map (λ (checkpoint : Checkpoint). checkpoint.id) (none_removable store t false (live_filesets t) each i)))
 
 given-none : (most : ℕ) (effect : World → World) (new : ℕ) (w : World) → pick w ≡ None → given_up most effect new w ≡ 0
 given-none zero effect new w none = refl
@@ -96,12 +115,19 @@ grown before after records limit below grows full = elim grows.by [
   | inr more ↦ omega (arith, more)
 ]
 
-module _ (store : Store) (mounts : Mounts) (t : Table) (ours : IsOurs t) (next : World) (new records : ℕ) (grows : Grows (record_count t) (records_in next) records) where
+-- where no checkpoint is gone
+module _ (store : Store) (mounts : Mounts) (t : Table) (ours : IsOurs t) (none : NoneGone t) (next : World) (new records : ℕ) (grows : Grows (record_count t) (records_in next) records) where
   abbrev here : World
   here = world_on store mounts t
 
+  held-here : held here ≡ extent_count t
+  held-here = held-is store mounts t ours.lawful ours.sound ours.plain none
+
+  records-here : records_in here ≡ record_count t
+  records-here = records-is store mounts t ours.lawful ours.sound none
+
   fit-is : fits here next new ≡ has_room t new records
-  fit-is = λ i. nat_le (held-is store mounts t ours i + new) t.blocks && fits_records (record_count t) (records_in next) records t.records ours.sized.fits grows i
+  fit-is = λ i. nat_le (held-here i + new) t.blocks && fits_records (record_count t) (records_in next) records t.records ours.sized.fits grows i
 
   both_full : (a b : Bool) → (a && b) ≡ false → a ≡ true → b ≡ false
   both_full true b h is = h
@@ -109,22 +135,50 @@ module _ (store : Store) (mounts : Mounts) (t : Table) (ours : IsOurs t) (next :
 
   space-is : has_room t new records ≡ false → no_space here next new ≡ lack_of_room t new records
   space-is full =
-      ap (λ n. if nat_le (n + new) t.blocks then NoSpace Records (records_in here) (records_in next - records_in here) t.records else NoSpace Blocks n new t.blocks) (held-is store mounts t ours)
+      ap (λ n. if nat_le (n + new) t.blocks then NoSpace Records (records_in here) (records_in next - records_in here) t.records else NoSpace Blocks n new t.blocks) held-here
       ∙ elim (nat_le (extent_count t + new) t.blocks) as (λ b. nat_le (extent_count t + new) t.blocks ≡ b → (if b then NoSpace Records (records_in here) (records_in next - records_in here) t.records else NoSpace Blocks (extent_count t) new t.blocks)
       ≡ (if b then NoSpace Records (record_count t) records t.records else NoSpace Blocks (extent_count t) new t.blocks)) [
-        | true ↦ λ is. ap (λ n. NoSpace Records n (records_in next - n) t.records) (records-is store mounts t ours)
+        | true ↦ λ is. ap (λ n. NoSpace Records n (records_in next - n) t.records) records-here
             ∙ ap (λ n. NoSpace Records (record_count t) n t.records) (grown (record_count t) (records_in next) records t.records ours.sized.fits grows (both_full _ _ full is))
         | false ↦ λ _. refl
       ] refl
 
-  -- a call that leads to this world
-  pub room-is : (effect : World → World) (reply : Reply) → effect here ≡ next
-      → with_room here effect new reply ≡ (if has_room t new records then answered_with reply next else answered_with (lack_of_room t new records) here)
-  room-is effect reply leads =
-      room-plain here effect new reply (pick-none store mounts t ours)
+  -- a call that leads to this world has no room
+  pub no_room-is : (effect : World → World) (reply : Reply) → effect here ≡ next → has_room t new records ≡ false
+      → with_room here effect new reply ≡ answered_with (lack_of_room t new records) here
+  no_room-is effect reply leads full =
+      room-plain here effect new reply (pick-none store mounts t ours.plain)
       ∙ ap (λ n. if fits here n new then answered_with reply n else answered_with (no_space here n new) here) leads
-      ∙ ap (λ b. if b then answered_with reply next else answered_with (no_space here next new) here) fit-is
-      ∙ elim (has_room t new records) as (λ b. has_room t new records ≡ b → (if b then answered_with reply next else answered_with (no_space here next new) here) ≡ (if b then answered_with reply next else answered_with (lack_of_room t new records) here)) [
-        | true ↦ λ _. refl
-        | false ↦ λ full. ap (λ r. answered_with r here) (space-is full)
-      ] refl
+      ∙ ap (λ b. if b then answered_with reply next else answered_with (no_space here next new) here) (fit-is ∙ full)
+      ∙ ap (λ r. answered_with r here) (space-is full)
+
+-- a call that leads to this world, of so many records at most, has room where the table has it
+module _ (store : Store) (mounts : Mounts) (t : Table) (ours : IsOurs t) (next : World) (new : ℕ) (fit : extent_count t + new ≤ t.blocks) (within : records_in next ≤ t.records) where
+  abbrev now : World
+  now = world_on store mounts t
+
+  fits-there : fits now next new ≡ true
+  fits-there =
+      let most = held-within store mounts t ours.lawful ours.sound ours.plain in
+      let blocks : held now + new ≤ t.blocks = omega (arith, most, fit) in
+      let one : nat_le (held now + new) t.blocks ≡ true = grind (arith, nat_tests) in
+      let two : nat_le (records_in next) t.records ≡ true = grind (arith, nat_tests) in
+      λ i. one i && two i
+
+  pub room-is : (effect : World → World) (reply : Reply) → effect now ≡ next → with_room now effect new reply ≡ answered_with reply next
+  room-is effect reply leads =
+      room-plain now effect new reply (pick-none store mounts t ours.plain)
+      ∙ ap (λ n. if fits now n new then answered_with reply n else answered_with (no_space now n new) now) leads
+      ∙ ap (λ b. if b then answered_with reply next else answered_with (no_space now next new) now) fits-there
+
+-- what a table's room says
+pub room_of : (t : Table) (blocks records : ℕ) → has_room t blocks records ≡ true → (extent_count t + blocks ≤ t.blocks) × (record_count t + records ≤ t.records)
+room_of t blocks records room =
+    let parts = both (nat_le (extent_count t + blocks) t.blocks) (nat_le (record_count t + records) t.records) room in
+    let one = parts.0 in
+    let two = parts.1 in
+    (grind (arith, nat_tests), grind (arith, nat_tests))
+  where
+    both : (a b : Bool) → (a && b) ≡ true → (a ≡ true) × (b ≡ true)
+    both true b h = (refl, h)
+    both false b h = cc

@@ -9,3 +9,5 @@ pub mod Files
 pub mod Places
 pub mod Planned
 pub mod Built
+pub mod Worlds
+pub mod Removal

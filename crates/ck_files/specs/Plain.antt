@@ -6,9 +6,8 @@ use Rattle.ck_model.specs.World.{keeps_files}
 use Rattle.ck_model.specs.Table.{Table, IsTable, IsSized}
 use Rattle.ck_model.specs.Rules.{IsSound}
 
--- it isn't gone, keeps its files, and isn't removable
+-- it keeps its files, and isn't removable
 pub record IsPlainFileset (fileset : Fileset) : Type 0 where
-  pub gone : fileset.gone ≡ false
   pub keeps : keeps_files fileset.kind ≡ true
   pub stays : fileset.removable ≡ false
 

@@ -1,5 +1,6 @@
 -- Whether a table has room for what a call puts, and the reply where it hasn't.
-use Rattle.std.specs.Prelude.{◌≡◌, ◌≤◌, ◌⊎◌, ℕ, ◌+◌, ◌&&◌, Bool, if◌then◌else◌, nat_le}
+use Rattle.std.specs.Prelude.{◌≡◌, ◌≤◌, ◌⊎◌, ℕ, ◌+◌, ◌-◌, ◌&&◌, Bool, false, List, if◌then◌else◌, nat_le}
+use Rattle.ck_model.specs.declared.change.Change.{Change}
 use Rattle.ck_model.specs.declared.reply.Reply.{Reply}
 use Rattle.ck_model.specs.declared.reply.Reply.TheVariants.{NoSpace}
 use Rattle.ck_model.specs.declared.reply.SpaceOf.TheVariants.{Blocks, Records}
@@ -7,6 +8,8 @@ use Rattle.ck_model.specs.World.{World}
 use Rattle.ck_model.specs.Step.{Outcome}
 use Rattle.ck_model.specs.Table.{Table, record_count}
 use Rattle.ck_model.specs.TableWorld.{extent_count}
+use Rattle.ck_model.specs.Placed.{NoneGone}
+use Rattle.ck_push.specs.Growth.{gains, losses, write_count}
 
 -- so many records come to so many, which are that many more, or no more
 pub record Grows (before after records : ℕ) : Type 0 where
@@ -26,3 +29,9 @@ lack_of_room t blocks records =
 -- this reply, for which nothing is given up, and this next world
 abbrev pub answered_with : Reply → World → Outcome
 answered_with reply next = record { reply = reply; given = 0; next = next }
+
+-- where nothing is left to remove, changes don't fit, for this reason
+pub record IsLacking (t : Table) (changes : List Change) (answer : Reply) : Type 0 where
+  pub none : NoneGone t
+  pub full : has_room t (write_count changes) (gains t changes - losses t changes) ≡ false
+  pub reply : answer ≡ lack_of_room t (write_count changes) (gains t changes - losses t changes)

@@ -16,7 +16,7 @@ use ck_model::{Change, Counters, Freed, Limits, Meta};
 use ck_push::change;
 
 /// Gives up the data block that a change freed: it is pending until a commit.
-fn give_up(blocks: &mut Blocks, freed: Freed)
+pub(crate) fn give_up(blocks: &mut Blocks, freed: Freed)
     requires { IfSome freed.block (λ block. set.contains blocks.old.used block ≡ true) }
     ensures given { IfSome freed.block (λ block. blocks.new ≡ record blocks.old { used = set.remove blocks.old.used block; pending = set.insert blocks.old.pending block }) }
     ensures partition { IsSome freed.block → IsPartition blocks.new }

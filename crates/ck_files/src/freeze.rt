@@ -1,4 +1,4 @@
-ghost use Rattle.std.specs.Prelude.{◌≡◌, false, IsSome};
+ghost use Rattle.std.specs.Prelude.{◌≡◌, ◌<◌, false, IsSome};
 ghost use Rattle.ck_model.specs.declared.checkpoint.Kind.TheVariants.{Keeping};
 ghost use Rattle.ck_model.specs.declared.reply.SpaceOf.TheVariants.{Records};
 ghost use Rattle.ck_model.specs.declared.reply.Reply.TheVariants.{NoSpace};
@@ -10,10 +10,17 @@ ghost use Rattle.ck_model.specs.Values.{Store};
 ghost use Rattle.ck_model.specs.TableWorld.{world_on};
 ghost use Rattle.ck_table.specs.Added.{new_fileset, new_id, with_added};
 ghost use Rattle.ck_files.specs.Freeze.{refusal_of, refused_or};
+ghost use Rattle.ck_model.specs.Placed.{NoneGone};
+ghost use Rattle.ck_model.specs.Table.{spare_count};
+ghost use Rattle.ck_files.specs.Allocated.{KeepsBusy, IsAllocated};
+ghost use Rattle.ck_files.specs.Files.{AreFiles};
 ghost use Rattle.ck_files.specs.Plain.{IsOurs};
+ghost use Rattle.ck_files.specs.Worlds.{StandAlike};
 ghost use Rattle.ck_files.specs.Room.{answered_with};
 ghost use Rattle.ck_files.specs.Reports.{limits_of};
 
+use crate::removal::drain;
+use ck_alloc::Blocks;
 use ck_model::{Kind, Limits, Meta, NameBytes, Reply, SpaceOf};
 use ck_table::{AddFault, add, new_id};
 
@@ -42,10 +49,11 @@ fn lack<M: Meta>(meta: &M, limits: Limits, name: &NameBytes) -> Reply
     }
 }
 
-/// Freezes a checkpoint, which keeps the files and isn't removable. No data block is copied.
-pub fn create<M: Meta>(meta: &mut M, limits: Limits, name: &NameBytes, at: u64) -> Reply
+/// Adds the checkpoint, where a record is free.
+fn add_checkpoint<M: Meta>(meta: &mut M, limits: Limits, name: &NameBytes, at: u64) -> Reply
     requires ours { IsOurs (M.table meta.old) }
     requires limits { limits ≡ limits_of (M.table meta.old) }
+    requires full { spare_count (M.table meta.old) ≡ 0 → NoneGone (M.table meta.old) }
     requires name { IsCheckpointName name.now }
     ensures reply { (store : Store) (mounts : Mounts) →
         created (world_on store mounts (M.table meta.old)) name.now false false at
@@ -65,4 +73,45 @@ pub fn create<M: Meta>(meta: &mut M, limits: Limits, name: &NameBytes, at: u64) 
         Ok(id) => Reply::Created(id),
         Err(fault) => refusal(fault, limits.checkpoints),
     }
+}
+
+/// Frees a record where none is free, by removing what is gone.
+fn free_record<M: Meta>(meta: &mut M, blocks: &mut Blocks)
+    requires ours { IsOurs (M.table meta.old) }
+    requires allocated { IsAllocated (M.table meta.old) blocks.old }
+    ensures alike { StandAlike (M.table meta.old) (M.table meta.new) }
+    ensures ours { IsOurs (M.table meta.new) }
+    ensures allocated { IsAllocated (M.table meta.new) blocks.new }
+    ensures busy { KeepsBusy blocks.old blocks.new }
+    ensures at_once { 0 < spare_count (M.table meta.old) → M.table meta.new ≡ M.table meta.old }
+    ensures full { spare_count (M.table meta.new) ≡ 0 → NoneGone (M.table meta.new) }
+{
+    if meta.spare() == 0 {
+        drain(meta, blocks);
+    }
+}
+
+/// Freezes a checkpoint, which keeps the files and isn't removable. No data block is copied. Where no
+/// record is free, what is gone is removed first.
+pub fn create<M: Meta>(
+    meta: &mut M,
+    blocks: &mut Blocks,
+    limits: Limits,
+    name: &NameBytes,
+    at: u64,
+) -> Reply
+    requires files { AreFiles limits (M.table meta.old) blocks.old }
+    requires limits { limits ≡ limits_of (M.table meta.old) }
+    requires name { IsCheckpointName name.now }
+    ensures reply { (store : Store) (mounts : Mounts) →
+        created (world_on store mounts (M.table meta.old)) name.now false false at
+        ≡ answered_with result (world_on store mounts (M.table meta.new)) }
+    ensures ordinary { is_fault result ≡ false }
+    ensures added { IsSome (created_id result) → 0 < spare_count (M.table meta.old)
+        → M.table meta.new ≡ with_added (M.table meta.old) (new_fileset name.now Keeping false at) }
+    ensures files { AreFiles limits (M.table meta.new) blocks.new }
+    ensures busy { KeepsBusy blocks.old blocks.new }
+{
+    free_record(meta, blocks);
+    add_checkpoint(meta, limits, name, at)
 }

@@ -7,6 +7,7 @@ mod freeze;
 mod mounts;
 mod names;
 mod planned;
+mod removal;
 mod reports;
 mod room;
 
@@ -15,5 +16,6 @@ pub use freeze::create;
 pub use mounts::{mount, mounted_at, umount};
 pub use names::{cls, ls, stat};
 pub use planned::{Planned, plan_changes};
+pub use removal::{drain, remove, remove_step};
 pub use reports::{ckpts, info};
 pub use room::used;

@@ -3,13 +3,14 @@ ghost use Rattle.ck_tree.specs.declared.fault.TreeFault.TheVariants as fault;
 ghost use Rattle.ck_tree.specs.Faults.{reply_of};
 ghost use Rattle.ck_model.specs.FileCalls.{IsChanging};
 ghost use Rattle.ck_files.specs.declared.planned.Planned.TheVariants.{Answered};
+ghost use Rattle.ck_files.specs.Allocated.{KeepsBusy};
 ghost use Rattle.ck_files.specs.Files.{AreFiles};
 ghost use Rattle.ck_files.specs.Planned.{IsPlanned};
+ghost use Rattle.ck_files.specs.Worlds.{StandAlike};
 
-use crate::room::lack;
+use crate::room::make_room;
 use ck_alloc::Blocks;
 use ck_model::{Call, Change, Limits, Meta, NoMemory, Reply};
-use ck_push::cost;
 use ck_tree::{TreeFault, plan};
 use std::alloc::Global;
 
@@ -32,25 +33,28 @@ fn refused(why: TreeFault) -> Result<Planned, NoMemory>
     Ok(Planned::Answered(Reply::from(why)))
 }
 
-/// What a call that changes files comes to. Nothing is written.
+/// What a call that changes files comes to. Nothing is written; where it doesn't fit at once, what is
+/// gone is removed.
 pub fn plan_changes<M: Meta>(
     alloc: Global,
-    meta: &M,
-    blocks: &Blocks,
+    meta: &mut M,
+    blocks: &mut Blocks,
     limits: Limits,
     call: &Call,
 ) -> Result<Planned, NoMemory>
-    requires files { AreFiles limits (M.table meta.now) blocks.now }
+    requires files { AreFiles limits (M.table meta.old) blocks.old }
     requires changing { IsChanging call.now }
-    ensures { IfOk result (IsPlanned (M.table meta.now) call.now) }
+    ensures alike { StandAlike (M.table meta.old) (M.table meta.new) }
+    ensures files { AreFiles limits (M.table meta.new) blocks.new }
+    ensures busy { KeepsBusy blocks.old blocks.new }
+    ensures planned { IfOk result (IsPlanned (M.table meta.new) call.now) }
 {
     let changes = match plan(alloc, meta, call) {
         Ok(changes) => changes,
         Err(fault) => return refused(fault),
     };
-    let cost = cost(meta, &changes);
-    match lack(meta, blocks, limits, &cost) {
-        Some(reply) => Ok(Planned::Answered(reply)),
-        None => Ok(Planned::Changes(changes, cost.blocks)),
+    match make_room(meta, blocks, limits, &changes) {
+        Ok(writes) => Ok(Planned::Changes(changes, writes)),
+        Err(reply) => Ok(Planned::Answered(reply)),
     }
 }

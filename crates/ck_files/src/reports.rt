@@ -1,4 +1,5 @@
 ghost use Rattle.std.specs.Prelude.{◌≡◌, IfOk};
+ghost use Rattle.ck_model.specs.Placed.{NoneGone};
 ghost use Rattle.ck_model.specs.World.{Mounts};
 ghost use Rattle.ck_model.specs.ReadCalls.{info_of, listing_of};
 ghost use Rattle.ck_model.specs.Values.{Store};
@@ -58,9 +59,11 @@ pub fn ckpts<M: Meta>(alloc: Global, meta: &M) -> Result<Reply, NoMemory>
     Ok(Reply::Listing(CkptLines::of(lines)))
 }
 
-/// How much room the volume takes, where so many of its data blocks are in use.
+/// How much room the volume takes, where so many of its data blocks are in use and no checkpoint is
+/// gone.
 pub fn info<M: Meta>(meta: &M, limits: Limits, used: u32) -> Reply
     requires ours { IsOurs (M.table meta.now) }
+    requires none { NoneGone (M.table meta.now) }
     requires limits { limits ≡ limits_of (M.table meta.now) }
     requires used { used ≡ extent_count (M.table meta.now) }
     ensures { (store : Store) (mounts : Mounts) →

@@ -1,10 +1,16 @@
-ghost use Rattle.std.specs.Prelude.{◌≡◌, ◌≤◌, ◌<◌, ◌^◌, true, false, MatchOption};
+ghost use Rattle.std.specs.Prelude.{◌≡◌, ◌≤◌, ◌<◌, ◌-◌, ◌^◌, true, false, IfErr, IfOk, MatchOption, OnOk, length};
 ghost use Rattle.ck_model.specs.TableWorld.{extent_count};
+ghost use Rattle.ck_push.specs.Growth.{gains, losses, write_count};
+ghost use Rattle.ck_files.specs.Allocated.{KeepsBusy, IsAllocated};
 ghost use Rattle.ck_files.specs.Files.{AreFiles};
-ghost use Rattle.ck_files.specs.Room.{has_room, lack_of_room};
+ghost use Rattle.ck_files.specs.Plain.{IsOurs};
+ghost use Rattle.ck_files.specs.Room.{has_room, lack_of_room, IsLacking};
+ghost use Rattle.ck_files.specs.Worlds.{StandAlike};
 
+use crate::removal::drain;
 use ck_alloc::Blocks;
-use ck_model::{Cost, Limits, Meta, Reply, SpaceOf};
+use ck_model::{Change, Cost, Limits, Meta, Reply, SpaceOf};
+use ck_push::cost;
 
 /// How many data blocks are in use.
 pub fn used<M: Meta>(meta: &M, blocks: &Blocks, limits: Limits) -> u32
@@ -13,6 +19,15 @@ pub fn used<M: Meta>(meta: &M, blocks: &Blocks, limits: Limits) -> u32
     ensures within { result ≤ limits.blocks }
 {
     limits.blocks - (blocks.free() + blocks.pending())
+}
+
+/// Whether changes of this cost fit at once, into data blocks and records that are free.
+fn fits<M: Meta>(meta: &M, blocks: &Blocks, cost: &Cost) -> bool
+    requires ours { IsOurs (M.table meta.now) }
+    requires allocated { IsAllocated (M.table meta.now) blocks.now }
+    ensures { result ≡ true → has_room (M.table meta.now) cost.now.blocks cost.now.records ≡ true }
+{
+    cost.blocks <= blocks.free() && cost.records <= meta.spare()
 }
 
 /// Why changes of this cost don't fit, where they don't.
@@ -44,4 +59,33 @@ pub fn lack<M: Meta>(meta: &M, blocks: &Blocks, limits: Limits, cost: &Cost) -> 
         ));
     }
     None
+}
+
+/// Makes room for changes: what is gone is removed where they don't fit at once. Gives how many data
+/// blocks they write, or why they don't fit.
+pub(crate) fn make_room<M: Meta>(
+    meta: &mut M,
+    blocks: &mut Blocks,
+    limits: Limits,
+    changes: &[Change],
+) -> Result<u32, Reply>
+    requires files { AreFiles limits (M.table meta.old) blocks.old }
+    requires few { length changes.now ≤ 262146 }
+    ensures alike { StandAlike (M.table meta.old) (M.table meta.new) }
+    ensures files { AreFiles limits (M.table meta.new) blocks.new }
+    ensures busy { KeepsBusy blocks.old blocks.new }
+    ensures writes { IfOk result (λ writes. writes ≡ write_count changes.now) }
+    ensures fits { OnOk result (has_room (M.table meta.new) (write_count changes.now) (gains (M.table meta.new) changes.now - losses (M.table meta.new) changes.now) ≡ true) }
+    ensures lack { IfErr result (IsLacking (M.table meta.new) changes.now) }
+{
+    let at_once = cost(meta, changes);
+    if fits(meta, blocks, &at_once) {
+        return Ok(at_once.blocks);
+    }
+    drain(meta, blocks);
+    let cost = cost(meta, changes);
+    match lack(meta, blocks, limits, &cost) {
+        Some(reply) => Err(reply),
+        None => Ok(cost.blocks),
+    }
 }

@@ -1,7 +1,8 @@
 -- Where the two areas lie.
 use Rattle.std.proofs.Common.{◌≡◌, inl, inr, ⊎_elim, ◌≤◌, ◌<◌, ◌+◌, ◌*◌, ◌-◌, ℕ, Bool, true, false, not, sym, ap, subst, arith}
+use Rattle.std.proofs.lemmas.Bool.{cases_lt}
 use Rattle.ck_disk.specs.Disk.{Image, Outside}
-use Rattle.ck_log.specs.Layout.{Layout, table_blocks, first_area, area_at, base_of}
+use Rattle.ck_log.specs.Layout.{Layout, OutsideGateAndAreas, table_blocks, first_area, area_at, base_of}
 use Rattle.ck_log.specs.Images.{part, names_second, table_on}
 
 -- both areas lie behind the header and the gate
@@ -34,22 +35,24 @@ other_area records true i lt = inr (omega arith)
 other_area records false i lt = inl (omega arith)
 
 -- what lies outside the gate and both areas lies outside each of them
-pub others_area : (records : ℕ) (second : Bool) (k : ℕ) → Outside 1 (base_of records - 1) k → Outside (area_at records second) (table_blocks records) k
-others_area records second k outside =
-    let low = area_low records second in
-    let high = area_high records second in
-    let first = first_area-low records in
-    ⊎_elim (λ (h : k < 1). inl (omega arith)) (λ (h : 1 + (base_of records - 1) ≤ k). inr (omega arith)) outside
+pub others_area : (records : ℕ) (second : Bool) (k : ℕ) → OutsideGateAndAreas records k → Outside (area_at records second) (table_blocks records) k
+others_area records true k outside = ⊎_elim (λ (h : k < first_area records). inl (omega arith)) (λ (h : first_area records + 2 * table_blocks records ≤ k). inr (omega arith)) outside.areas
+others_area records false k outside = ⊎_elim (λ (h : k < first_area records). inl h) (λ (h : first_area records + 2 * table_blocks records ≤ k). inr (omega arith)) outside.areas
 
 -- the same of an area that is given by its numbers
-pub outside_area : (records : ℕ) (second : Bool) (free n : ℕ) → free ≡ area_at records second → n ≡ table_blocks records → (k : ℕ) → Outside 1 (base_of records - 1) k → Outside free n k
+pub outside_area : (records : ℕ) (second : Bool) (free n : ℕ) → free ≡ area_at records second → n ≡ table_blocks records → (k : ℕ) → OutsideGateAndAreas records k → Outside free n k
 outside_area records second free n is_free long k outside =
     subst (λ (m : ℕ). Outside free m k) (sym long) (subst (λ (p : ℕ). Outside p (table_blocks records) k) (sym is_free) (others_area records second k outside))
 
-pub others_gate : (records : ℕ) (k : ℕ) → Outside 1 (base_of records - 1) k → Outside 1 1 k
-others_gate records k outside =
-    let first = first_area-low records in
-    ⊎_elim (λ (h : k < 1). inl h) (λ (h : 1 + (base_of records - 1) ≤ k). inr (omega arith)) outside
+pub others_gate : (records : ℕ) (k : ℕ) → OutsideGateAndAreas records k → Outside 1 1 k
+others_gate records k outside = ⊎_elim (λ (h : k < 1). inl h) (λ (h : 1 ≤ k). let apart = outside.gate in inr (omega (arith, apart))) (cases_lt k 1)
+
+-- the header, and what lies behind both areas
+pub outside_both : (records k : ℕ) → Outside 1 (base_of records - 1) k → OutsideGateAndAreas records k
+outside_both records k outside = ⊎_elim
+    (λ (h : k < 1). let low = first_area-low records in record { gate = λ (is : k ≡ 1). omega arith; areas = inl (omega arith) })
+    (λ (h : 1 + (base_of records - 1) ≤ k). let low = first_area-low records in record { gate = λ (is : k ≡ 1). omega arith; areas = inr (omega arith) })
+    outside
 
 -- the table in the area that the gate names
 pub table_at : (layout : Layout) (c : Image) (second : Bool) → names_second c ≡ second → table_on layout c ≡ part (area_at layout.records second) (table_blocks layout.records) c

@@ -1,9 +1,9 @@
 -- A commit call by call.
-use Rattle.std.proofs.Common.{◌≡◌, ◌≢◌, ◌-◌, ◌⊎◌, inl, ⊎_elim, ◌==◌, ℕ, Bool, false, IsTrue, not, [], length, refl, sym, ◌∙◌, ap, subst}
+use Rattle.std.proofs.Common.{◌≡◌, ◌≢◌, ◌⊎◌, inl, ⊎_elim, ◌==◌, ℕ, Bool, false, IsTrue, not, [], length, refl, sym, ◌∙◌, ap, subst}
 use Rattle.std.proofs.lemmas.Bool.{false≢true}
 use Rattle.ck_disk.specs.Disk.{Image, Meaning, Lawful, LeavesOnly, Reaches, Outside, Agrees, IsSynced}
 use Rattle.ck_disk.proofs.MomentLaws.{leaves_more, leaves_both, leaves_now, synced_only, agrees_less, agrees_on}
-use Rattle.ck_log.specs.Layout.{Layout, table_blocks, area_at, base_of}
+use Rattle.ck_log.specs.Layout.{Layout, OutsideGateAndAreas, table_blocks, area_at}
 use Rattle.ck_log.specs.Images.{part, table_on, HasTable, HasBefore, HasAfter, Settled}
 use Rattle.ck_log.specs.Group.{IsWhole}
 use Rattle.ck_log.proofs.AreaLaws.{outside_area, others_gate}
@@ -25,14 +25,14 @@ whole_blocks layout table whole some =
     whole
 
 -- what reads give outside the gate and both areas
-pub others_after_run : (layout : Layout) (second : Bool) (free n : ℕ) (d c : Image) → free ≡ area_at layout.records second → n ≡ table_blocks layout.records → Agrees (Outside free n) d c → Agrees (Outside 1 (base_of layout.records - 1)) d c
+pub others_after_run : (layout : Layout) (second : Bool) (free n : ℕ) (d c : Image) → free ≡ area_at layout.records second → n ≡ table_blocks layout.records → Agrees (Outside free n) d c → Agrees (OutsideGateAndAreas layout.records) d c
 others_after_run layout second free n d c is_free long same =
-    agrees_less (Outside free n) (Outside 1 (base_of layout.records - 1)) d c
+    agrees_less (Outside free n) (OutsideGateAndAreas layout.records) d c
     (outside_area layout.records second free n is_free long) same
 
-pub others_after_gate : (layout : Layout) (d s c : Image) → Agrees (Outside 1 (base_of layout.records - 1)) d s → Agrees (Outside 1 1) s c → Agrees (Outside 1 (base_of layout.records - 1)) d c
+pub others_after_gate : (layout : Layout) (d s c : Image) → Agrees (OutsideGateAndAreas layout.records) d s → Agrees (Outside 1 1) s c → Agrees (OutsideGateAndAreas layout.records) d c
 others_after_gate layout d s c before same =
-    agrees_on (Outside 1 (base_of layout.records - 1)) d s c before (agrees_less (Outside 1 1) (Outside 1 (base_of layout.records - 1)) s c (others_gate layout.records) same)
+    agrees_on (OutsideGateAndAreas layout.records) d s c before (agrees_less (Outside 1 1) (OutsideGateAndAreas layout.records) s c (others_gate layout.records) same)
 
 module _ (layout : Layout) (before table : Image) (old : Meaning) (settled : IsTrue old.tells → (c : Image) → old.may_leave c → HasTable layout before c) where
   abbrev pub Either : Image → Type 0

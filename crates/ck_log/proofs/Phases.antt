@@ -1,8 +1,8 @@
 -- What the images of a commit have, before its gate is written and after.
-use Rattle.std.proofs.Common.{◌≡◌, ◌⊎◌, inl, inr, ⊎_elim, ◌<◌, ◌-◌, ◌==◌, ℕ, Bool, true, false, not, List, [], length, get_or, set, refl, sym, ◌∙◌, ap, arith, get_or-set_same}
+use Rattle.std.proofs.Common.{◌≡◌, ◌⊎◌, inl, inr, ⊎_elim, ◌<◌, ◌==◌, ℕ, Bool, true, false, not, List, [], length, get_or, set, refl, sym, ◌∙◌, ap, arith, get_or-set_same}
 use Rattle.ck_disk.specs.Disk.{Image, Agrees, Outside, Reaches}
 use Rattle.ck_disk.proofs.MomentLaws.{agrees_on, agrees_less, agrees_set}
-use Rattle.ck_log.specs.Layout.{Layout, table_blocks, area_at, base_of}
+use Rattle.ck_log.specs.Layout.{Layout, OutsideGateAndAreas, table_blocks, area_at}
 use Rattle.ck_log.specs.Images.{part, names_second, HasTable, HasBefore, HasAfter}
 use Rattle.ck_log.proofs.Parts.{part_agrees, apart_run}
 use Rattle.ck_log.proofs.AreaLaws.{area_low, other_area, others_area, others_gate, table_at}
@@ -46,7 +46,7 @@ module _ (layout : Layout) where
         ∙ sym (table_at layout from.0 layout.second (settled from.0 from.1).gate) ∙ (settled from.0 from.1).table
 
     abbrev Others : ℕ → Type 0
-    Others = Outside 1 (base_of layout.records - 1)
+    Others = OutsideGateAndAreas layout.records
 
     -- while the other area is written
     pub staged : (c : Image) → Reaches Unnamed all c → HasBefore layout before all c

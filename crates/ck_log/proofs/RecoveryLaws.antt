@@ -1,5 +1,5 @@
 -- What an image says of its volume, and which changes to the image leave that as it was.
-use Rattle.std.proofs.Common.{◌≡◌, ◌≢◌, ◌≤◌, ◌<◌, ◌+◌, ◌-◌, ◌&&◌, ◌==◌, nat_le, ℕ, Bool, true, false, not, IsTrue, bytes_eq, if◌then◌else◌, List, [], length, take, get_or, set, refl, sym, ◌∙◌, ap, subst, arith, get_or-set_other}
+use Rattle.std.proofs.Common.{◌≡◌, ◌≢◌, ◌≤◌, ◌<◌, ◌+◌, ◌&&◌, ◌==◌, nat_le, ℕ, Bool, true, false, not, IsTrue, bytes_eq, if◌then◌else◌, List, [], length, take, get_or, set, refl, sym, ◌∙◌, ap, subst, arith, get_or-set_other}
 use Rattle.std.specs.Prelude.{Result, Ok, Err, IfOk, IfErr}
 use Rattle.std.proofs.lemmas.Nat.{from_be_bytes-to_be_bytes_4}
 use Rattle.std.proofs.lemmas.List.{length-set}

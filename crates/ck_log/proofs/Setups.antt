@@ -3,12 +3,12 @@ use Rattle.std.proofs.Common.{◌≡◌, ◌≢◌, inl, inr, ⊎_elim, ◌≤�
 use Rattle.std.proofs.lemmas.List.{length-set}
 use Rattle.ck_disk.specs.Disk.{Image, Meaning, Lawful, Step, LeavesOnly, Reaches, Outside, Agrees, IsSynced, TearsAt}
 use Rattle.ck_disk.proofs.MomentLaws.{writes_on, leaves_more, leaves_both, leaves_now, synced_only, agrees_set, agrees_on, agrees_less}
-use Rattle.ck_log.specs.Layout.{Layout, IsSized, table_blocks, area_at, base_of, size_of}
+use Rattle.ck_log.specs.Layout.{Layout, IsSized, OutsideGateAndAreas, table_blocks, area_at, base_of, size_of}
 use Rattle.ck_log.specs.Header.{Opens, header_of, recovered_by}
 use Rattle.ck_log.specs.Images.{part, names_second, recovered_region, HasTable}
 use Rattle.ck_log.specs.FirstTable.{blank_block, first_block, first_table, WholeOrBefore}
 use Rattle.ck_log.proofs.Parts.{part_first}
-use Rattle.ck_log.proofs.AreaLaws.{first_area-low, area_low, others_gate, table_at}
+use Rattle.ck_log.proofs.AreaLaws.{first_area-low, area_low, others_gate, outside_both, table_at}
 use Rattle.ck_log.proofs.Commits.{told_on}
 use Rattle.ck_log.proofs.Phases.{apart_gate, same_gate, put_gate}
 use Rattle.ck_log.proofs.RecoveryLaws.{recovered_read, recovered_by-header_of, has_table-agrees}
@@ -40,7 +40,7 @@ write_run_others K L s mid new at apart less put same =
     agrees_on K s mid new (subst (λ (l : Image). Agrees K s l) (sym put.1) (agrees_set K s at put.0 apart)) (agrees_less L K mid new less same)
 
 -- the gate apart from all that lies outside it and both areas
-pub apart_others : (records : ℕ) (k : ℕ) → Outside 1 (base_of records - 1) k → k ≢ 1
+pub apart_others : (records : ℕ) (k : ℕ) → OutsideGateAndAreas records k → k ≢ 1
 apart_others records k outside = apart_gate k (others_gate records k outside)
 
 -- a gate that is written before the first table
@@ -49,29 +49,29 @@ gate_stays s mid new gate records free n long byte put is_free same =
     same_gate (Outside free n) mid new (inl (omega (arith, is_free, area_low records false))) same ∙ ap names_second put ∙ put_gate s gate false long byte
 
 -- what lies behind both areas
-above : (records k : ℕ) → Outside 0 (base_of records) k → Outside 1 (base_of records - 1) k
-above records k outside = ⊎_elim (λ (h : k < 0). inl (omega arith)) (λ (h : 0 + base_of records ≤ k). inr (omega (arith, first_area-low records))) outside
+above : (records k : ℕ) → Outside 0 (base_of records) k → OutsideGateAndAreas records k
+above records k outside = outside_both records k (⊎_elim (λ (h : k < 0). inl (omega arith)) (λ (h : 0 + base_of records ≤ k). inr (omega (arith, first_area-low records))) outside)
 
 behind_header : (records k : ℕ) → Outside 0 (base_of records) k → Outside 0 1 k
 behind_header records k outside = ⊎_elim (λ (h : k < 0). inl h) (λ (h : 0 + base_of records ≤ k). inr (omega (arith, first_area-low records))) outside
 
 -- while the table is written, the header is as before
-pub while_table : (layout : Layout) (all : Image → Type 0) (c : Image) → Reaches (Outside 1 (base_of layout.records - 1)) all c → WholeOrBefore layout all c
+pub while_table : (layout : Layout) (all : Image → Type 0) (c : Image) → Reaches (OutsideGateAndAreas layout.records) all c → WholeOrBefore layout all c
 while_table layout all c from = record {
   header = inl from;
-  others = (from.0, from.1, agrees_less (Outside 1 (base_of layout.records - 1)) (Outside 0 (base_of layout.records)) from.0 c (above layout.records) from.2);
+  others = (from.0, from.1, agrees_less (OutsideGateAndAreas layout.records) (Outside 0 (base_of layout.records)) from.0 c (above layout.records) from.2);
 }
 
 -- while the header is written, the table is whole
 pub while_header : (layout : Layout) (all : Image → Type 0) (s c : Image) → HasTable layout (first_table (table_blocks layout.records)) s
-    → Reaches (Outside 1 (base_of layout.records - 1)) all s → Agrees (Outside 0 1) s c → WholeOrBefore layout all c
+    → Reaches (OutsideGateAndAreas layout.records) all s → Agrees (Outside 0 1) s c → WholeOrBefore layout all c
 while_header layout all s c has from same = record {
   header = inr (has_table-agrees layout (first_table (table_blocks layout.records)) (Outside 0 1) s c (λ k low lt. inr low) same has);
   others = (
     from.0,
     from.1,
     agrees_on (Outside 0 (base_of layout.records)) from.0 s c
-        (agrees_less (Outside 1 (base_of layout.records - 1)) (Outside 0 (base_of layout.records)) from.0 s (above layout.records) from.2)
+        (agrees_less (OutsideGateAndAreas layout.records) (Outside 0 (base_of layout.records)) from.0 s (above layout.records) from.2)
         (agrees_less (Outside 0 1) (Outside 0 (base_of layout.records)) s c (behind_header layout.records) same),
   );
 }
@@ -102,17 +102,17 @@ module _ (blocks records : ℕ) (old mid : Meaning) where
   abbrev Made : Image → Type 0
   Made c = IsTrue old.tells → WholeOrBefore made old.may_leave c
 
-  module _ (ran : LeavesOnly old mid (Reaches (Outside 1 (base_of records - 1)) old.may_leave)) where
+  module _ (ran : LeavesOnly old mid (Reaches (OutsideGateAndAreas records) old.may_leave)) where
     -- the table first
     pub table_first : LeavesOnly old mid Made
-    table_first = leaves_more old mid (Reaches (Outside 1 (base_of records - 1)) old.may_leave) Made (λ c from told. while_table made old.may_leave c from) ran
+    table_first = leaves_more old mid (Reaches (OutsideGateAndAreas records) old.may_leave) Made (λ c from told. while_table made old.may_leave c from) ran
 
   -- and then the header
-  pub header_last : (new : Meaning) → Lawful mid → (ran : LeavesOnly old mid (Reaches (Outside 1 (base_of records - 1)) old.may_leave))
+  pub header_last : (new : Meaning) → Lawful mid → (ran : LeavesOnly old mid (Reaches (OutsideGateAndAreas records) old.may_leave))
       → (IsTrue old.tells → names_second mid.shows ≡ false) → (IsTrue old.tells → part (area_at records false) (table_blocks records) mid.shows ≡ first_table (table_blocks records))
       → IsSynced mid → LeavesOnly mid new (Reaches (Outside 0 1) mid.may_leave) → LeavesOnly old new Made
   header_last new law ran gate table synced more = leaves_both old mid new Made (table_first ran) (leaves_more mid new (Reaches (Outside 0 1) mid.may_leave) Made (λ c from told.
       let told_mid = told_on _ _ ran.tells told in
       while_header made old.may_leave mid.shows c (first_has blocks records mid.shows (gate told) (table told))
-      (leaves_now old mid (Reaches (Outside 1 (base_of records - 1)) old.may_leave) law ran mid.shows (law.shown told_mid))
+      (leaves_now old mid (Reaches (OutsideGateAndAreas records) old.may_leave) law ran mid.shows (law.shown told_mid))
       (subst (λ (d : Image). Agrees (Outside 0 1) d c) (synced_only mid law told_mid synced from.0 from.1) from.2)) more)

@@ -1,7 +1,7 @@
 -- The table of a new volume: the counters and the root directory.
 use Rattle.std.specs.Prelude.{◌⊎◌, ℕ, ◌-◌, false, IsTrue, List, ◌∷◌, ◌++◌, replicate}
 use Rattle.ck_disk.specs.Disk.{Image, Meaning, Outside, Reaches}
-use Rattle.ck_log.specs.Layout.{Layout, table_blocks, base_of}
+use Rattle.ck_log.specs.Layout.{Layout, OutsideGateAndAreas, table_blocks, base_of}
 use Rattle.ck_log.specs.Images.{HasTable}
 
 -- a block of zeros
@@ -31,7 +31,7 @@ new_layout blocks records = record { blocks = blocks; records = records; second 
 -- While a volume is made, an image has a header from before, or it has the whole new table. Behind both areas it is an
 -- image from before.
 pub record WholeOrBefore (layout : Layout) (all : Image → Type 0) (image : Image) : Type 0 where
-  pub header : (Reaches (Outside 1 (base_of layout.records - 1)) all image)
+  pub header : (Reaches (OutsideGateAndAreas layout.records) all image)
       ⊎ HasTable layout (first_table (table_blocks layout.records)) image
   pub others : Reaches (Outside 0 (base_of layout.records)) all image
 

@@ -1,7 +1,7 @@
 -- What an image of a device says of the volume on it.
-use Rattle.std.specs.Prelude.{◌≡◌, ◌⊎◌, ◌-◌, ℕ, Bool, IsTrue, ◌==◌, [], length, get_or, slice_index, take, drop}
-use Rattle.ck_disk.specs.Disk.{Image, Meaning, Agrees, Outside, Reaches}
-use Rattle.ck_log.specs.Layout.{Layout, table_blocks, area_at, base_of}
+use Rattle.std.specs.Prelude.{◌≡◌, ◌⊎◌, ℕ, Bool, IsTrue, ◌==◌, [], length, get_or, slice_index, take, drop}
+use Rattle.ck_disk.specs.Disk.{Image, Meaning, Agrees, Reaches}
+use Rattle.ck_log.specs.Layout.{Layout, OutsideGateAndAreas, table_blocks, area_at}
 use Rattle.ck_log.specs.Header.{Recovered, recovered_by}
 
 -- so many blocks from a place on
@@ -38,13 +38,13 @@ Settled layout m = IsTrue m.tells → (image : Image) → m.may_leave image → 
 -- header, and each data block as that one has it.
 pub record HasBefore (layout : Layout) (before : Image) (all : Image → Type 0) (image : Image) : Type 0 where
   pub table : table_on layout image ≡ before
-  pub others : Reaches (Outside 1 (base_of layout.records - 1)) all image
+  pub others : Reaches (OutsideGateAndAreas layout.records) all image
 
 -- The image has the new table. But for the gate and the two areas it is what reads gave before, so each data block is
 -- there as it was written.
 pub record HasAfter (layout : Layout) (after shows image : Image) : Type 0 where
   pub table : table_on layout image ≡ after
-  pub others : Agrees (Outside 1 (base_of layout.records - 1)) shows image
+  pub others : Agrees (OutsideGateAndAreas layout.records) shows image
 
 -- what a crash leaves at any moment of a commit after which the table is this one
 abbrev pub CommitLeaves : Layout → Image → Meaning → Image → Type 0

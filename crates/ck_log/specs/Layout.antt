@@ -1,6 +1,7 @@
 -- Where the blocks of a volume stand on its device: the header, the gate, two areas for its table, and its data blocks.
-use Rattle.std.specs.Prelude.{ℕ, ◌+◌, ◌*◌, ◌/◌, ◌≤◌, Bool, ◌&&◌, nat_le, if◌then◌else◌, refl}
+use Rattle.std.specs.Prelude.{ℕ, ◌≢◌, ◌+◌, ◌*◌, ◌/◌, ◌≤◌, Bool, ◌&&◌, nat_le, if◌then◌else◌, refl}
 use Rattle.std.specs.Coded.{Coded, code_by, coded×, coded_ℕ, coded_bool}
+use Rattle.ck_disk.specs.Disk.{Outside}
 
 -- A volume on a device: how many data blocks and records it has, and whether its table stands in the second area.
 pub record Layout : Type 0 where
@@ -41,6 +42,11 @@ area_at records second = if second then first_area records + table_blocks record
 -- the first data block, behind both areas
 abbrev pub base_of : ℕ → ℕ
 base_of records = first_area records + 2 * table_blocks records
+
+-- Neither the gate nor a block of the two areas: no commit writes it.
+pub record OutsideGateAndAreas (records place : ℕ) : Type 0 where
+  pub gate : place ≢ 1
+  pub areas : Outside (first_area records) (2 * table_blocks records) place
 
 -- how many blocks the volume takes of its device
 abbrev pub size_of : ℕ → ℕ → ℕ

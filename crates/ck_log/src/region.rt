@@ -1,6 +1,6 @@
-ghost use Rattle.std.specs.Prelude.{◌≡◌, ◌≤◌, ◌<◌, ◌-◌, ◌==◌, not, Err, [], length, get_or, slice_index, IsTrue, IfOk, IfErr, OnOk, OnErr};
+ghost use Rattle.std.specs.Prelude.{◌≡◌, ◌≤◌, ◌<◌, ◌==◌, not, Err, [], length, get_or, slice_index, IsTrue, IfOk, IfErr, OnOk, OnErr};
 ghost use Rattle.ck_disk.specs.Disk.{LeavesOnly, Agrees, Outside, IsSynced, KeepsClean, Rose};
-ghost use Rattle.ck_log.specs.Layout.{table_blocks, area_at, base_of, size_of};
+ghost use Rattle.ck_log.specs.Layout.{OutsideGateAndAreas, table_blocks, area_at, base_of, size_of};
 ghost use Rattle.ck_log.specs.Images.{recovered_region, table_on, area_of, Settled, CommitLeaves};
 ghost use Rattle.ck_disk.specs.Runs.{OnlyReads};
 ghost use Rattle.ck_log.specs.FirstTable.{first_table, new_layout, FormatLeaves};
@@ -189,7 +189,7 @@ impl Region {
             ≡ table_after (table_on self.old (D.means disk.old).shows) table.now) }
         ensures settled { OnOk result (Settled self.new (D.means disk.new)) }
         ensures others { IsTrue (D.means disk.old).tells
-            → Agrees (Outside 1 (base_of self.old.records - 1)) (D.means disk.old).shows
+            → Agrees (OutsideGateAndAreas self.old.records) (D.means disk.old).shows
             (D.means disk.new).shows }
         ensures synced { OnOk result (0 < length table.now → IsSynced (D.means disk.new)) }
         ensures empty { table.now ≡ [] → disk.new ≡ disk.old }
@@ -219,7 +219,7 @@ impl Region {
         ensures settled { OnOk result
             (Settled (record self.now { second = not self.now.second }) (D.means disk.new)) }
         ensures others { IsTrue (D.means disk.old).tells
-            → Agrees (Outside 1 (base_of self.now.records - 1)) (D.means disk.old).shows
+            → Agrees (OutsideGateAndAreas self.now.records) (D.means disk.old).shows
             (D.means disk.new).shows }
         ensures synced { OnOk result (IsSynced (D.means disk.new)) }
         ensures cause { OnErr result

@@ -1,7 +1,7 @@
 // What makes a new volume: its first table and a gate that names it, and then the header.
 ghost use Rattle.std.specs.Prelude.{◌≡◌, ◌+◌, ◌-◌, ◌≤◌, ◌<◌, false, [], get_or, replicate, IsTrue, OnOk, OnErr};
 ghost use Rattle.ck_disk.specs.Disk.{LeavesOnly, Reaches, Outside, Agrees, IsSynced, Rose};
-ghost use Rattle.ck_log.specs.Layout.{IsSized, table_blocks, area_at, base_of, size_of};
+ghost use Rattle.ck_log.specs.Layout.{IsSized, OutsideGateAndAreas, table_blocks, area_at, base_of, size_of};
 ghost use Rattle.ck_log.specs.Images.{part, names_second, recovered_region, HasTable};
 ghost use Rattle.ck_log.specs.Header.{Opens, header_of};
 ghost use Rattle.ck_log.specs.FirstTable.{blank_block, first_block, first_table, new_layout, FormatLeaves};
@@ -70,7 +70,7 @@ fn put_first_table<D: Disk>(disk: &mut D, records: u32) -> Result<(), Failed>
     requires few { records ≤ 262144 }
     requires size { base_of records ≤ (D.means disk.old).size }
     ensures any_moment { LeavesOnly (D.means disk.old) (D.means disk.new)
-        (Reaches (Outside 1 (base_of records - 1)) (D.means disk.old).may_leave) }
+        (Reaches (OutsideGateAndAreas records) (D.means disk.old).may_leave) }
     ensures gate { OnOk result
         (IsTrue (D.means disk.old).tells → names_second (D.means disk.new).shows ≡ false) }
     ensures table { OnOk result
@@ -78,7 +78,7 @@ fn put_first_table<D: Disk>(disk: &mut D, records: u32) -> Result<(), Failed>
         → part (area_at records false) (table_blocks records) (D.means disk.new).shows
         ≡ first_table (table_blocks records)) }
     ensures others { IsTrue (D.means disk.old).tells
-        → Agrees (Outside 1 (base_of records - 1)) (D.means disk.old).shows
+        → Agrees (OutsideGateAndAreas records) (D.means disk.old).shows
         (D.means disk.new).shows }
     ensures synced { OnOk result (IsSynced (D.means disk.new)) }
     ensures cause { OnErr result

@@ -11,3 +11,4 @@ pub mod ExtentLemmas
 pub mod UnseenLemmas
 pub mod RoomLemmas
 pub mod WorldLaws
+pub mod DrainLaws

@@ -1,14 +1,13 @@
 -- What is built of the grammar today. Every other line is refused.
 use Rattle.std.specs.Prelude.{◌&&◌, Bool, true, false, not, nat_eq}
 use Rattle.ck_model.specs.declared.call.Call.{Call}
-use Rattle.ck_model.specs.declared.call.Call.TheVariants.{Create, Remove, Nodata, Removable, Restore, Backup, Full}
+use Rattle.ck_model.specs.declared.call.Call.TheVariants.{Create, Nodata, Removable, Restore, Backup, Full}
 use Rattle.ck_script.specs.declared.form.Form.{Form}
 use Rattle.ck_script.specs.declared.form.Form.TheVariants.{Called, Turned}
 
--- all calls but remove, nodata, removable, restore, backup, full and create with flags
+-- all calls but nodata, removable, restore, backup, full and create with flags
 abbrev pub is_built_call : Call → Bool
 is_built_call (Create name nodata removable) = not nodata && not removable
-is_built_call (Remove name) = false
 is_built_call (Nodata name synchronous) = false
 is_built_call (Removable name on) = false
 is_built_call (Restore name) = false

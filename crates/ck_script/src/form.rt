@@ -49,7 +49,7 @@ fn is_built_call(call: &Call) -> bool
 {
     match call {
         Call::Create(_, nodata, removable) => !*nodata && !*removable,
-        Call::Remove(_) | Call::Nodata(_, _) | Call::Removable(_, _) | Call::Restore(_) => false,
+        Call::Nodata(_, _) | Call::Removable(_, _) | Call::Restore(_) => false,
         Call::Backup(_, _) | Call::Full(_) => false,
         _ => true,
     }

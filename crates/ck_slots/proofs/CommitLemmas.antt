@@ -1,8 +1,8 @@
 -- A commit that did nothing, and one that wrote blocks.
-use Rattle.std.proofs.Common.{◌≡◌, ◌<◌, ◌-◌, [], ◌∷◌, length, inl, refl, ap, ◌∙◌, arith}
-use Rattle.ck_disk.specs.Disk.{Image, Meaning, Lawful, LeavesOnly, Outside}
+use Rattle.std.proofs.Common.{◌≡◌, ◌<◌, [], ◌∷◌, length, inl, refl, ap, ◌∙◌, arith}
+use Rattle.ck_disk.specs.Disk.{Image, Meaning, Lawful, LeavesOnly}
 use Rattle.ck_disk.proofs.MomentLaws.{leaves_start, agrees_same}
-use Rattle.ck_log.specs.Layout.{Layout, base_of}
+use Rattle.ck_log.specs.Layout.{Layout, OutsideGateAndAreas}
 use Rattle.ck_log.specs.Images.{Settled, CommitLeaves}
 use Rattle.ck_log.specs.Group.{table_after}
 
@@ -11,7 +11,7 @@ pub nothing_left : (layout : Layout) (after : Image) (m : Meaning) → Lawful m 
 nothing_left layout after m law settled =
     leaves_start m (CommitLeaves layout after m) law (λ image left told. inl (record {
       table = (settled told image left).table;
-      others = (image, left, agrees_same (Outside 1 (base_of layout.records - 1)) image);
+      others = (image, left, agrees_same (OutsideGateAndAreas layout.records) image);
     }))
 
 -- blocks that are there take the table's place

@@ -1,9 +1,9 @@
-ghost use Rattle.std.specs.Prelude.{◌≡◌, ◌≤◌, ◌<◌, ◌-◌, true, Some, None, IsTrue, IfOk, IfErr, OnOk, OnErr, slice_get, vec_capacity};
+ghost use Rattle.std.specs.Prelude.{◌≡◌, ◌≤◌, ◌<◌, true, Some, None, IsTrue, IfOk, IfErr, OnOk, OnErr, slice_get, vec_capacity};
 ghost use Rattle.std.specs.Ordering.{nat_cmp};
 ghost use Rattle.std.specs.FinMap.{is_sorted};
 ghost use Rattle.std.specs.FinMap as map;
-ghost use Rattle.ck_disk.specs.Disk.{Agrees, Outside, IsSynced};
-ghost use Rattle.ck_log.specs.Layout.{base_of, size_of, table_blocks};
+ghost use Rattle.ck_disk.specs.Disk.{Agrees, IsSynced};
+ghost use Rattle.ck_log.specs.Layout.{OutsideGateAndAreas, size_of, table_blocks};
 ghost use Rattle.ck_log.specs.FirstTable.{first_table};
 ghost use Rattle.ck_log.specs.Images.{table_on, Settled};
 ghost use Rattle.ck_disk.specs.Runs.{OnlyReads};
@@ -148,8 +148,8 @@ impl Slots {
         ensures settled { OnOk result (Settled region.new (D.means disk.new)) }
         ensures synced { OnOk result (IsSynced (D.means disk.new)) }
         ensures others { IsTrue (D.means disk.old).tells
-            → Agrees (Outside 1 (base_of region.old.records - 1))
-            (D.means disk.old).shows (D.means disk.new).shows }
+            → Agrees (OutsideGateAndAreas region.old.records) (D.means disk.old).shows
+            (D.means disk.new).shows }
         ensures region { region.new
             ≡ record region.old { second = region.new.second } }
         ensures kept { OnErr result (region.new ≡ region.old) }

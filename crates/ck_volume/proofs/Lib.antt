@@ -9,3 +9,4 @@ pub mod CutsLaws
 pub mod CutsAfter
 pub mod ExactKnown
 pub mod TopCutsLaws
+pub mod QuietLemmas

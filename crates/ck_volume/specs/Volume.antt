@@ -76,6 +76,16 @@ past_on shows volume = now.past_on shows (present_of volume)
 abbrev pub KeepsAllButRoom : {D : Type 0} {g : Ghosts D} → Volume D g → Volume D g → Type 0
 KeepsAllButRoom before after = present_of after ≡ present_of before
 
+-- The calls that it answered, the memory for more, what was committed and what broke it stay as they are.
+pub record KeepsLog {D : Type 0} {g : Ghosts D} (before after : Volume D g) : Type 0 where
+  pub history : history_of after ≡ history_of before
+  pub room : room_of after ≡ room_of before
+  pub told : told_of after ≡ told_of before
+  pub committed : committed_of after ≡ committed_of before
+  pub spoilt : spoilt_of after ≡ spoilt_of before
+  pub broken : broken_of after ≡ broken_of before
+  pub origin : origin_of after ≡ origin_of before
+
 -- what every volume keeps
 abbrev pub IsKept : {D : Type 0} {g : Ghosts D} → (D → Meaning) → Volume D g → Type 0
 IsKept means volume = kept.IsKept (means (origin_of volume)) (means (disk_of volume)) (told_of volume) (committed_of volume) (spoilt_of volume) (present_of volume)

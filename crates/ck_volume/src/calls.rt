@@ -3,11 +3,13 @@ ghost use Rattle.std.specs.Option.{option_or};
 ghost use Rattle.ck_disk.specs.Disk.{Image, Rose};
 ghost use Rattle.ck_log.specs.Layout.{IsSized};
 ghost use Rattle.ck_model.specs.declared.reply.Reply.TheVariants as reply;
+ghost use Rattle.ck_model.specs.Placed.{NoneGone};
 ghost use Rattle.ck_model.specs.Streams.{Texts};
 ghost use Rattle.ck_model.specs.World.{unmounted};
 ghost use Rattle.ck_model.specs.History.{CallsBy, numbers_of, is_write_fault, is_broken};
 ghost use Rattle.ck_files.specs.Built.{IsBuilt};
 ghost use Rattle.ck_files.specs.Freeze.{Freezes};
+ghost use Rattle.ck_files.specs.Removal.{Removes};
 ghost use Rattle.ck_disk.specs.Runs.{Runs};
 ghost use Rattle.ck_engine.specs.Engine as files;
 ghost use Rattle.ck_engine.specs.Exact.{IsExact};
@@ -15,6 +17,8 @@ ghost use Rattle.ck_engine.specs.Formatted.{IsFormatFault};
 ghost use Rattle.ck_engine.specs.Opened.{IsOpenFault};
 ghost use Rattle.ck_engine.specs.Opened as opened;
 ghost use Rattle.ck_engine.specs.Recovery.{Recovers};
+ghost use Rattle.ck_remove.specs.Gone.{left_of};
+ghost use Rattle.ck_volume.specs.declared.background.Background.TheVariants as back;
 ghost use Rattle.ck_volume.specs.declared.commit.CommitAnswer.TheVariants as answer;
 ghost use Rattle.ck_volume.specs.declared.event.Turn.TheVariants.{Answered};
 ghost use Rattle.ck_volume.specs.declared.event.Progress.TheVariants.{Fresh};
@@ -22,8 +26,9 @@ ghost use Rattle.ck_volume.specs.Causes.{acknowledges};
 ghost use Rattle.ck_volume.specs.CommitAnswer.{broken_after, committed_after, spoilt_after};
 ghost use Rattle.ck_volume.specs.Event.{newest, Follows, HasCause, IsEntryOf};
 ghost use Rattle.ck_volume.specs.Present.{present};
-ghost use Rattle.ck_volume.specs.Volume.{disk_of, origin_of, table_of, mounts_of, history_of, room_of, length_of, committed_of, spoilt_of, told_of, broken_of, world_of, past_on, KeepsAllButRoom, IsKept, IsBegun, IsOpened, IsFormatted};
+ghost use Rattle.ck_volume.specs.Volume.{disk_of, origin_of, table_of, mounts_of, history_of, room_of, length_of, committed_of, spoilt_of, told_of, broken_of, world_of, past_on, KeepsAllButRoom, KeepsLog, IsKept, IsBegun, IsOpened, IsFormatted};
 
+use crate::background::{Background, drain, step};
 use crate::commit::{CommitAnswer, commit};
 use crate::event::{Progress, Turn, happen};
 use crate::log::Log;
@@ -167,8 +172,9 @@ impl<D: Disk> Volume<D> {
         ensures follows { IsTrue (D.means (disk_of self.old)).tells → (texts : Texts) (calls : CallsBy) → calls actor seq ≡ Some call.now
             → Follows texts calls (past_on (D.means (disk_of self.old)).shows self.old) (newest (history_of self.new)) (past_on (D.means (disk_of self.new)).shows self.new) }
 
-        // A checkpoint costs one record: nothing is copied.
+        // A checkpoint costs one record where one is free: nothing is copied. Its removal marks that record alone.
         ensures freezes { Freezes call.now at (newest (history_of self.new)).reply (table_of self.old) (table_of self.new) }
+        ensures removes { Removes call.now (newest (history_of self.new)).reply (table_of self.old) (table_of self.new) }
 
         // A failed write breaks it; once it is broken it says so, and leaves the device alone.
         ensures broken { broken_of self.new ≡ option_or (broken_of self.old) (if is_write_fault (newest (history_of self.new)).reply then Some (length_of self.old) else None) }
@@ -196,6 +202,38 @@ impl<D: Disk> Volume<D> {
         Turn::Answered
     }
 
+    /// Takes one step of what is left to do in the background: today, the removal of checkpoints that
+    /// are gone. Nobody sees it, and the device isn't called.
+    pub fn background(&mut self) -> Background
+        ensures world { world_of (D.means (disk_of self.old)).shows self.new ≡ world_of (D.means (disk_of self.old)).shows self.old }
+        ensures mounts { mounts_of self.new ≡ mounts_of self.old }
+        ensures log { KeepsLog self.old self.new }
+        ensures disk { disk_of self.new ≡ disk_of self.old }
+
+        // A step leaves one less to do; a broken volume stays as it is.
+        ensures stepped { result ≡ back.Stepped → left_of (table_of self.new) + 1 ≡ left_of (table_of self.old) }
+        ensures idle { result ≡ back.Idle → NoneGone (table_of self.new) }
+        ensures broken { result ≡ back.Broken → IsSome (broken_of self.old) }
+        ensures untouched { IsSome (broken_of self.old) → (result ≡ back.Broken) × KeepsAllButRoom self.old self.new }
+
+        ensures kept { IsKept D.means self.new }
+    {
+        step(&mut self.engine, &self.log)
+    }
+
+    /// Takes all background steps that are left: no checkpoint is gone afterwards.
+    pub fn drain(&mut self)
+        ensures world { world_of (D.means (disk_of self.old)).shows self.new ≡ world_of (D.means (disk_of self.old)).shows self.old }
+        ensures mounts { mounts_of self.new ≡ mounts_of self.old }
+        ensures log { KeepsLog self.old self.new }
+        ensures disk { disk_of self.new ≡ disk_of self.old }
+        ensures none { broken_of self.old ≡ None → NoneGone (table_of self.new) }
+        ensures untouched { IsSome (broken_of self.old) → KeepsAllButRoom self.old self.new }
+        ensures kept { IsKept D.means self.new }
+    {
+        drain(&mut self.engine, &self.log);
+    }
+
     /// Commits the present world, which no call does but `sync`: a crash leaves it afterwards, without its mounts.
     pub fn commit(&mut self, alloc: Global) -> CommitAnswer
 
@@ -213,6 +251,9 @@ impl<D: Disk> Volume<D> {
         ensures cause { result ≡ answer.WriteFault → Rose (D.means (disk_of self.old)).write_faults (D.means (disk_of self.new)).write_faults }
         ensures runs { Runs (D.means (disk_of self.old)) (D.means (disk_of self.new)) }
 
+        // Refused memory leaves files, device and history as they were: nothing was written.
+        ensures no_memory { result ≡ answer.NoMemory → KeepsAllButRoom self.old self.new }
+
         ensures committed_entries { committed_of self.new ≡ committed_after (length_of self.new) (committed_of self.old) result }
         ensures origin { origin_of self.new ≡ origin_of self.old }
         ensures spoilt { spoilt_of self.new ≡ spoilt_after (length_of self.new) (spoilt_of self.old) result }
@@ -221,8 +262,8 @@ impl<D: Disk> Volume<D> {
         // Its history stands as before, and each image now recovers a cut of it with all that was committed.
         ensures kept { IsKept D.means self.new }
 
-        // Afterwards a crash leaves the present world, and nothing beside it.
-        ensures exact { result ≡ answer.Done → IsTrue (D.means (disk_of self.old)).tells
+        // Afterwards a crash leaves the present world, and nothing beside it where no checkpoint is gone.
+        ensures exact { NoneGone (table_of self.old) → result ≡ answer.Done → IsTrue (D.means (disk_of self.old)).tells
             → (image : Image) → (D.means (disk_of self.new)).may_leave image → IsExact (unmounted (world_of (D.means (disk_of self.new)).shows self.new)) image }
     {
         let answer = commit(&mut self.engine, &mut self.log, alloc);

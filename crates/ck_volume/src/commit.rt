@@ -1,7 +1,8 @@
 ghost use Rattle.std.specs.Prelude.{◌≡◌, ◌≢◌, ◌⊎◌, ℕ, Some, None, IsTrue, IsSome};
 ghost use Rattle.ck_disk.specs.Disk.{Image, Rose};
+ghost use Rattle.ck_model.specs.Placed.{NoneGone};
 ghost use Rattle.ck_model.specs.World.{World, unmounted};
-ghost use Rattle.ck_engine.specs.Engine.{disk_of, mounts_of};
+ghost use Rattle.ck_engine.specs.Engine.{disk_of, mounts_of, table_of};
 ghost use Rattle.ck_disk.specs.Runs.{Runs};
 ghost use Rattle.ck_engine.specs.Exact.{IsExact};
 ghost use Rattle.ck_volume.specs.declared.commit.CommitAnswer.TheVariants as answer;
@@ -44,6 +45,9 @@ pub(crate) fn commit<D: Disk>(engine: &mut Engine<D>, log: &mut Log, alloc: Glob
     ensures cause { result ≡ answer.WriteFault → Rose (D.means (disk_of engine.old)).write_faults (D.means (disk_of engine.new)).write_faults }
     ensures runs { Runs (D.means (disk_of engine.old)) (D.means (disk_of engine.new)) }
 
+    // Refused memory leaves files, device and log as they were.
+    ensures no_memory { result ≡ answer.NoMemory → present engine.new log.new ≡ present engine.old log.old }
+
     // A crash at any moment of it leaves the world that was committed before, or the present one.
     ensures survives { broken_of (present engine.old log.old) ≡ None → Survives (D.means (disk_of engine.old)) (D.means (disk_of engine.new)) (present engine.old log.old) }
 
@@ -51,10 +55,10 @@ pub(crate) fn commit<D: Disk>(engine: &mut Engine<D>, log: &mut Log, alloc: Glob
     ensures kept { broken_of (present engine.new log.new) ≡ None → IsTrue (D.means (disk_of engine.old)).tells → (w : World) → KeepsWorld (D.means (disk_of engine.old)) (present engine.old log.old) w
         → KeepsWorld (D.means (disk_of engine.new)) (present engine.new log.new) w ⊎ KeepsWorld (D.means (disk_of engine.new)) (present engine.new log.new) (unmounted (world_of (D.means (disk_of engine.old)).shows (present engine.old log.old))) }
 
-    // Afterwards it leaves the present world, and nothing beside it.
+    // Afterwards it leaves the present world, and nothing beside it where no checkpoint is gone.
     ensures committed { result ≡ answer.Done → IsTrue (D.means (disk_of engine.old)).tells → (w : World) → KeepsWorld (D.means (disk_of engine.old)) (present engine.old log.old) w
         → KeepsWorld (D.means (disk_of engine.new)) (present engine.new log.new) (unmounted (world_of (D.means (disk_of engine.new)).shows (present engine.new log.new))) }
-    ensures exact { result ≡ answer.Done → IsTrue (D.means (disk_of engine.old)).tells → (w : World) → KeepsWorld (D.means (disk_of engine.old)) (present engine.old log.old) w
+    ensures exact { NoneGone (table_of engine.old) → result ≡ answer.Done → IsTrue (D.means (disk_of engine.old)).tells → (w : World) → KeepsWorld (D.means (disk_of engine.old)) (present engine.old log.old) w
         → (image : Image) → (D.means (disk_of engine.new)).may_leave image → IsExact (unmounted (world_of (D.means (disk_of engine.new)).shows (present engine.new log.new))) image }
 {
     if let Some(number) = log.broken {

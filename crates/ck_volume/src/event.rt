@@ -8,6 +8,7 @@ ghost use Rattle.ck_model.specs.World.{World, unmounted};
 ghost use Rattle.ck_model.specs.History.{CallsBy, is_fault, is_write_fault, is_broken};
 ghost use Rattle.ck_files.specs.Built.{IsBuilt};
 ghost use Rattle.ck_files.specs.Freeze.{Freezes};
+ghost use Rattle.ck_files.specs.Removal.{Removes};
 ghost use Rattle.ck_engine.specs.Engine.{disk_of, table_of, IsWhole};
 ghost use Rattle.ck_disk.specs.Runs.{Runs};
 ghost use Rattle.ck_volume.specs.Cuts.{SurvivesOnTheWay, KeepsOnTheWay};
@@ -63,6 +64,7 @@ fn answer<D: Disk>(
     ensures answers { IsTrue (D.means (disk_of engine.old)).tells → (texts : Texts) → Answers texts (world_of (D.means (disk_of engine.old)).shows (present engine.old log.old)) actor moment call.now result (world_of (D.means (disk_of engine.new)).shows (present engine.new log.new)) }
     ensures ready { IsReady (D.means (disk_of engine.new)) (present engine.new log.new) }
     ensures freezes { Freezes call.now moment result (table_of engine.old) (table_of engine.new) }
+    ensures removes { Removes call.now result (table_of engine.old) (table_of engine.new) }
     ensures history { log.new.history ≡ log.old.history }
     ensures broken { log.new.broken ≡ (if is_write_fault result then Some (length_of (present engine.old log.old)) else None) }
     ensures not_refused { is_broken result ≡ false }
@@ -108,8 +110,9 @@ pub(crate) fn happen<D: Disk>(
         → Follows texts calls (past_on (D.means (disk_of engine.old)).shows (present engine.old log.old)) (newest (history_of (present engine.new log.new))) (past_on (D.means (disk_of engine.new)).shows (present engine.new log.new)) }
     ensures ready { IsReady (D.means (disk_of engine.new)) (present engine.new log.new) }
 
-    // A checkpoint costs one record: nothing is copied.
+    // A checkpoint costs one record where one is free: nothing is copied. Its removal marks that record alone.
     ensures freezes { Freezes call.now at (newest (history_of (present engine.new log.new))).reply (table_of engine.old) (table_of engine.new) }
+    ensures removes { Removes call.now (newest (history_of (present engine.new log.new))).reply (table_of engine.old) (table_of engine.new) }
 
     // A failed write breaks the volume; once it is broken it says so, and leaves the device alone.
     ensures broken { broken_of (present engine.new log.new) ≡ option_or (broken_of (present engine.old log.old)) (if is_write_fault (newest (history_of (present engine.new log.new))).reply then Some (length_of (present engine.old log.old)) else None) }

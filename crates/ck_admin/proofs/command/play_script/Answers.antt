@@ -7,7 +7,7 @@ use Rattle.ck_data.specs.Device.{store_on}
 use Rattle.ck_engine.specs.Engine.{data_of, table_of}
 use Rattle.ck_volume.specs.Volume.{disk_of, world_of}
 use Rattle.ck_volume.proofs.BegunLaws.{opened-recovers}
-use Rattle.ck_admin.proofs.TopLemmas.{ends_opened}
+use Rattle.ck_admin.proofs.TopLemmas.{ends_opened, read_or_refused}
 use Rattle.ck_admin.proofs.command.play_script.Goals as goal
 
 pub play_volume-requires-clause-recovers : goal.play_volume-requires-clause-recovers
@@ -30,3 +30,19 @@ returns-in-Ok-open-clause-ends g c =
     let bare : w ≡ unmounted w = ap (λ mounts. world_on (store_on mid.shows (data_of volume.engine)) mounts (table_of volume.engine)) opened.begun.mounts_are in
     ends_opened source left clock (g.K.Sink.means c.args.out.now) (g.K.Sink.means c.play_volume.new.out) before mid after (g.met.D.Disk.lawful c.args.disk) (g.met.D.Disk.lawful (disk_of volume)) read w c.play_volume.result.status
     c.in-Ok.ensures.script bare opened.files_are.recovers opened.files_are.any_moment c.play_volume.ensures.ends
+
+pub returns-in-Ok-open-clause-bad_script : goal.returns-in-Ok-open-clause-bad_script
+returns-in-Ok-open-clause-bad_script g c = λ line refused.
+    absurd (read_or_refused (g.S.Source.means c.args.source.now) (record { calls = c.in-Ok.script.calls; turns = c.in-Ok.script.turns }) line c.in-Ok.ensures.script refused)
+
+pub returns-in-Ok-open-clause-bad_script_device : goal.returns-in-Ok-open-clause-bad_script_device
+returns-in-Ok-open-clause-bad_script_device g c = λ line refused.
+    absurd (read_or_refused (g.S.Source.means c.args.source.now) (record { calls = c.in-Ok.script.calls; turns = c.in-Ok.script.turns }) line c.in-Ok.ensures.script refused)
+
+pub returns-in-Err-open-clause-bad_script : goal.returns-in-Err-open-clause-bad_script
+returns-in-Err-open-clause-bad_script g c = λ line refused.
+    absurd (read_or_refused (g.S.Source.means c.args.source.now) (record { calls = c.in-Ok.script.calls; turns = c.in-Ok.script.turns }) line c.in-Ok.ensures.script refused)
+
+pub returns-in-Err-open-clause-bad_script_device : goal.returns-in-Err-open-clause-bad_script_device
+returns-in-Err-open-clause-bad_script_device g c = λ line refused.
+    absurd (read_or_refused (g.S.Source.means c.args.source.now) (record { calls = c.in-Ok.script.calls; turns = c.in-Ok.script.turns }) line c.in-Ok.ensures.script refused)

@@ -1,4 +1,4 @@
-use Rattle.std.proofs.Common.{◌≡◌, ◌≤◌, ◌∙◌, ℕ, List, None, IsTrue, length, ap, sym, subst, arith}
+use Rattle.std.proofs.Common.{◌≡◌, ◌≤◌, ◌∙◌, refl, ℕ, List, Option, None, Some, IsTrue, length, ap, sym, subst, arith}
 use Rattle.std.specs.List.{AllByRecursion}
 use mathlib.Core.Logic.{∥∥₁_map}
 use Rattle.ck_disk.specs.Disk.{Meaning}
@@ -7,6 +7,8 @@ use Rattle.ck_model.specs.declared.entry.Entry.{Entry}
 use Rattle.ck_model.specs.History.{CallsBy, IsOfScript, call_at}
 use Rattle.ck_model.specs.World.{World, unmounted}
 use Rattle.ck_script.specs.Numbered.{calls_in}
+use Rattle.ck_volume.specs.declared.commit.CommitAnswer.{CommitAnswer}
+use Rattle.ck_volume.specs.declared.commit.CommitAnswer.TheVariants as answer
 use Rattle.ck_volume.specs.Causes.{HasCauses}
 use Rattle.ck_volume.specs.Cuts.{LeavesCuts as KeepsCuts}
 use Rattle.ck_disk.specs.Runs.{Runs}
@@ -23,6 +25,14 @@ use Rattle.ck_admin.specs.Play.{IsPlay}
 use Rattle.ck_admin.proofs.CrashLemmas.{committed_no_less, cuts_since}
 use Rattle.ck_admin.proofs.PlayedLemmas.{played}
 use Rattle.ck_admin.proofs.session.play_and_commit.Goals as goal
+
+-- a commit that was done found the volume whole
+unbroken_done : (broken : Option ℕ) (result : CommitAnswer) → ((n : ℕ) → broken ≡ Some n → result ≡ answer.Broken n) → result ≡ answer.Done → broken ≡ None
+unbroken_done None result refused done = refl
+unbroken_done (Some n) result refused done = absurd (apart (sym (refused n refl) ∙ done))
+  where
+    apart : answer.Broken n ≡ answer.Done → ⊥
+    apart h = cc
 
 pub returns-clause-played : goal.returns-clause-played
 returns-clause-played g c =
@@ -68,4 +78,4 @@ returns-clause-played g c =
     commit.refused commit.not_refused commit.cause
     (λ done told texts image left.
     subst (λ (v : World). IsExact (unmounted v) image) (sym (stands-now old new (told_of after) (present_of after) told stands w (c.requires.recovers told) texts calls answered))
-    (commit.exact done (subst IsTrue (sym start.tells) told) image left))
+    (commit.exact (play.drained (unbroken_done (broken_of before) c.commit.result commit.refused done)) done (subst IsTrue (sym start.tells) told) image left))

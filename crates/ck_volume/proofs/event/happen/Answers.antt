@@ -5,7 +5,7 @@ use Rattle.ck_history.specs.History.{entries_of}
 use Rattle.ck_history.specs.declared.history.History.{History}
 use Rattle.ck_model.specs.declared.entry.Entry.{Entry}
 use Rattle.ck_model.specs.declared.reply.Reply.{Reply}
-use Rattle.ck_model.specs.declared.reply.Reply.TheVariants.{Broken}
+use Rattle.ck_model.specs.declared.reply.Reply.TheVariants.{Broken, Done}
 use Rattle.ck_model.specs.World.{World, unmounted}
 use Rattle.ck_model.specs.History.{created_id, is_fault, is_write_fault, is_broken}
 use Rattle.ck_engine.specs.Engine.{disk_of, world_of, KeepsWorld}
@@ -85,6 +85,18 @@ returns-in-Some-clause-freezes g c = λ name nodata removable is_create created.
     let same : newest after ≡ c.entry_of.result = newest-put before after c.entry_of.result put in
     let replied : (newest after).reply ≡ Broken c.in-Some.entry = ap (λ (e : Entry). e.reply) (same ∙ c.entry_of.ensures) in
     absurd (false≢true (subst IsSome (ap created_id replied) created))
+
+not_done : (number : ℕ) → Broken number ≡ Done → ⊥
+not_done number h = cc
+
+pub returns-in-Some-clause-removes : goal.returns-in-Some-clause-removes
+returns-in-Some-clause-removes g c = λ name is_remove done.
+    let before = entries_of c.args.log.now.history in
+    let after = entries_of c.put.new.self in
+    let put : after ≡ before ++ c.entry_of.result ∷ [] = c.put.ensures.entries in
+    let same : newest after ≡ c.entry_of.result = newest-put before after c.entry_of.result put in
+    let replied : (newest after).reply ≡ Broken c.in-Some.entry = ap (λ (e : Entry). e.reply) (same ∙ c.entry_of.ensures) in
+    absurd (not_done c.in-Some.entry (sym replied ∙ done))
 
 -- ---- where it was answered
 
@@ -179,3 +191,12 @@ returns-clause-freezes g c = λ name nodata removable is_create created.
     let same : newest after ≡ c.entry_of-2.result = newest-put before after c.entry_of-2.result put in
     let replied : (newest after).reply ≡ c.answer-reply.result = ap (λ (e : Entry). e.reply) (same ∙ c.entry_of-2.ensures) in
     c.answer-reply.ensures.freezes name nodata removable is_create (subst IsSome (ap created_id replied) created)
+
+pub returns-clause-removes : goal.returns-clause-removes
+returns-clause-removes g c = λ name is_remove done.
+    let before = entries_of c.args.log.now.history in
+    let after = entries_of c.put-2.new.self in
+    let put : after ≡ before ++ c.entry_of-2.result ∷ [] = c.put-2.ensures.entries ∙ ap (λ (h : History). entries_of h ++ c.entry_of-2.result ∷ []) c.answer-reply.ensures.history in
+    let same : newest after ≡ c.entry_of-2.result = newest-put before after c.entry_of-2.result put in
+    let replied : (newest after).reply ≡ c.answer-reply.result = ap (λ (e : Entry). e.reply) (same ∙ c.entry_of-2.ensures) in
+    c.answer-reply.ensures.removes name is_remove (sym replied ∙ done)

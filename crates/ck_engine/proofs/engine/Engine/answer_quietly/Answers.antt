@@ -4,8 +4,11 @@ use Rattle.ck_model.specs.declared.call.Call.{Call}
 use Rattle.ck_model.specs.declared.reply.Reply.{Reply}
 use Rattle.ck_model.specs.History.{is_fault}
 use Rattle.ck_model.specs.TableWorld.{world_on}
+use Rattle.ck_model.specs.ReadCalls.{info_of}
 use Rattle.ck_model.specs.Step.{step}
+use Rattle.ck_model.specs.World.{World}
 use Rattle.ck_files.specs.Room.{answered_with}
+use Rattle.ck_slots.specs.Slots.{table_in}
 use Rattle.ck_engine.specs.Engine.{table_of, mounts_of}
 use Rattle.ck_model.proofs.CaseLaws.{if_ok_map}
 use Rattle.ck_model.specs.Values.{no_store}
@@ -59,8 +62,10 @@ returns-in-Ckpts-clause-ordinary g c = if_ok_map _ _ c.ckpts.result (λ reply ok
 pub returns-in-Info-clause-ok : goal.returns-in-Info-clause-ok
 returns-in-Info-clause-ok g c = λ store texts.
     let v = c.args.self.now in
+    let u = table_in c.drain.new.meta in
     ap (λ (x : Call). step texts (world_on store (mounts_of v) (table_of v)) c.args.actor c.args.moment x) c.in-Info.is
-    ∙ ap (λ (r : Reply). answered_with r (world_on store (mounts_of v) (table_of v))) (sym (c.info.ensures store (mounts_of v)))
+    ∙ ap (λ (w : World). answered_with (info_of w) w) (sym (c.drain.ensures.alike.worlds store (mounts_of v)))
+    ∙ ap (λ (r : Reply). answered_with r (world_on store (mounts_of v) u)) (sym (c.info.ensures store (mounts_of v)))
 
 pub returns-in-Info-clause-ordinary : goal.returns-in-Info-clause-ordinary
 returns-in-Info-clause-ordinary g c = ap is_fault (c.info.ensures no_store map.empty)

@@ -1,8 +1,8 @@
-use Rattle.std.proofs.Common.{refl}
+use Rattle.std.proofs.Common.{◌≡◌, refl}
 use Rattle.ck_model.specs.World.{unmounted}
-use Rattle.ck_engine.specs.Engine.{world_of}
-use Rattle.ck_engine.proofs.KeptLaws.{kept-exact}
-use Rattle.ck_engine.proofs.AttemptLemmas.{commit-attempt, commit-committed, commit-goes}
+use Rattle.ck_engine.specs.Engine.{blocks_of, layout_of, table_of, world_of}
+use Rattle.ck_engine.proofs.KeptLaws.{committed-exact}
+use Rattle.ck_engine.proofs.AttemptLemmas.{commit-attempt, commit-committed, commit-goes, commit-table}
 use Rattle.ck_engine.proofs.engine.Engine.commit.Goals as goal
 
 pub returns-in-Ok-clause-attempt : goal.returns-in-Ok-clause-attempt
@@ -31,11 +31,17 @@ returns-in-Err-NoMemory-clause-attempt g c =
     commit-attempt (g.D.Disk.means c.args.self.now.disk) (g.D.Disk.means c.commit.new.disk) c.args.self.now _ (g.met.D.Disk.lawful c.args.self.now.disk) c.requires.whole _ c.commit.ensures.commits
 
 pub returns-in-Ok-clause-exact : goal.returns-in-Ok-clause-exact
-returns-in-Ok-clause-exact g c = λ told w keeps image left.
+returns-in-Ok-clause-exact g c = λ none told w keeps image left.
     let e = c.in-Ok.ensures in
     let new = g.D.Disk.means c.commit.new.disk in
     let after = record c.args.self.now { region = c.commit.new.region; blocks = c.settle.new.self; disk = c.commit.new.disk } in
-    kept-exact new after (unmounted (world_of new.shows after))
-    (commit-committed (g.D.Disk.means c.args.self.now.disk) new c.args.self.now after (g.met.D.Disk.lawful c.args.self.now.disk) c.requires.whole _ e.commits
+    committed-exact (layout_of after) (blocks_of after) new (table_of c.args.self.now) (unmounted (world_of new.shows after))
+    (commit-table (g.D.Disk.means c.args.self.now.disk) new c.args.self.now after (g.met.D.Disk.lawful c.args.self.now.disk) c.requires.whole _ e.commits
     (g.met.D.Disk.lawful c.commit.new.disk) e.region refl refl e.settled e.synced e.commits.at_the_end e.others c.settle.ensures.free c.settle.ensures.partition told w keeps)
-    image left
+    none image left
+
+pub returns-in-Err-NoMemory-clause-no_memory : goal.returns-in-Err-NoMemory-clause-no_memory
+returns-in-Err-NoMemory-clause-no_memory g c = λ is.
+    let region : c.commit.new.region ≡ c.args.self.now.region = c.in-Err-NoMemory.ensures.kept in
+    let disk : c.commit.new.disk ≡ c.args.self.now.disk = c.in-Err-NoMemory.ensures.same_disk c.in-Err-NoMemory.field-0-is in
+    (λ i. record c.args.self.now { region = region i; disk = disk i })

@@ -1,8 +1,10 @@
-use Rattle.std.proofs.Common.{refl}
+use Rattle.std.proofs.Common.{ℕ, refl, sym, subst}
 use Rattle.ck_files.specs.Plain.{IsOurs}
 use Rattle.ck_disk.specs.Runs.{OnlyReads}
 use Rattle.ck_slots.specs.Slots.{table_in}
-use Rattle.ck_engine.proofs.OpenLemmas.{plain_built, volume-opened, unbuilt-found, damaged-found}
+use Rattle.ck_engine.specs.Opened.{IsFound}
+use Rattle.ck_engine.specs.Recovery.{BadFormat, Damaged}
+use Rattle.ck_engine.proofs.OpenLemmas.{plain_built, volume-opened, refused_format, refused_slot}
 use Rattle.ck_engine.proofs.engine.Engine.open_in.Goals as goal
 
 pub blocks_in-requires : goal.blocks_in-requires
@@ -23,10 +25,16 @@ pub returns-in-Err-BadFormat-clause-fault : goal.returns-in-Err-BadFormat-clause
 returns-in-Err-BadFormat-clause-fault g c =
     let d = c.open.ensures.device in
     let reads : OnlyReads (g.D.Disk.means c.args.disk) (g.D.Disk.means c.open.new.disk) = record { shows = d.shows; crash = d.crash; marks = d.marks; step = d.step } in
-    unbuilt-found c.args.region (g.D.Disk.means c.args.disk) (g.D.Disk.means c.open.new.disk) (g.met.D.Disk.lawful c.args.disk) reads c.requires.found c.requires.settled _ c.in-Err-BadFormat.ensures.refused
+    let arm = c.in-Err-BadFormat in
+    subst (λ v. IsFound (g.D.Disk.means c.args.disk) (g.D.Disk.means c.open.new.disk) (BadFormat v)) (sym arm.version-is)
+    (refused_format c.args.region (g.D.Disk.means c.args.disk) (g.D.Disk.means c.open.new.disk) (g.met.D.Disk.lawful c.args.disk) reads c.requires.found c.requires.settled
+    arm.field-0 arm.ensures.refused arm.version arm.field-0-is)
 
 pub returns-in-Err-Damaged-clause-fault : goal.returns-in-Err-Damaged-clause-fault
 returns-in-Err-Damaged-clause-fault g c =
     let d = c.open.ensures.device in
     let reads : OnlyReads (g.D.Disk.means c.args.disk) (g.D.Disk.means c.open.new.disk) = record { shows = d.shows; crash = d.crash; marks = d.marks; step = d.step } in
-    damaged-found c.args.region (g.D.Disk.means c.args.disk) (g.D.Disk.means c.open.new.disk) (g.met.D.Disk.lawful c.args.disk) reads c.requires.found c.requires.settled _ _ c.in-Err-Damaged.ensures.refused
+    let arm = c.in-Err-Damaged in
+    subst (λ (at : ℕ × ℕ). IsFound (g.D.Disk.means c.args.disk) (g.D.Disk.means c.open.new.disk) (Damaged at.0 at.1)) (λ i. (sym arm.block-is i, sym arm.slot-is i))
+    (refused_slot c.args.region (g.D.Disk.means c.args.disk) (g.D.Disk.means c.open.new.disk) (g.met.D.Disk.lawful c.args.disk) reads c.requires.found c.requires.settled
+    arm.field-0 arm.ensures.refused arm.block arm.slot arm.field-0-is)

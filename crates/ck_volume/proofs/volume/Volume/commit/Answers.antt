@@ -70,7 +70,7 @@ pub returns-clause-spoilt : goal.returns-clause-spoilt
 returns-clause-spoilt g c = c.note_spoilt.ensures ∙ ap (λ (n : ℕ). spoilt_after n c.args.self.now.spoilt.value c.commit-answer.result) c.length-answered.ensures
 
 pub returns-clause-exact : goal.returns-clause-exact
-returns-clause-exact g c = λ done told image left.
+returns-clause-exact g c = λ none done told image left.
     let volume = c.args.self.now in
     let before = present volume.engine volume.log in
     let after = present c.commit-answer.new.engine c.commit-answer.new.log in
@@ -79,4 +79,4 @@ returns-clause-exact g c = λ done told image left.
     let whole : broken_of before ≡ None = unbroken-done (broken_of before) c.commit-answer.result commit.refused done in
     exact-known (unmounted (world_of new.shows after)) image (∥∥₁_map volume.kept.cuts (λ cuts.
     let kept = cuts.kept whole (subst IsTrue volume.kept.runs.tells told) in
-    commit.exact done told kept.world kept.keeps image left))
+    commit.exact none done told kept.world kept.keeps image left))

@@ -1,0 +1,77 @@
+ghost use Rattle.std.specs.Prelude.{◌≡◌, ◌+◌, true, false};
+ghost use Rattle.ck_model.specs.CheckpointCalls.{dropped};
+ghost use Rattle.ck_model.specs.History.{is_fault};
+ghost use Rattle.ck_model.specs.Placed.{NoneGone};
+ghost use Rattle.ck_model.specs.Step.{done};
+ghost use Rattle.ck_model.specs.TableWorld.{world_on};
+ghost use Rattle.ck_model.specs.Values.{Store};
+ghost use Rattle.ck_model.specs.World.{Mounts};
+ghost use Rattle.ck_model.specs.declared.reply.Reply.TheVariants.{Done};
+ghost use Rattle.ck_remove.specs.Gone.{left_of};
+ghost use Rattle.ck_files.specs.Allocated.{KeepsBusy, IsAllocated};
+ghost use Rattle.ck_files.specs.Plain.{IsOurs};
+ghost use Rattle.ck_files.specs.Removal.{IsRemoved};
+ghost use Rattle.ck_files.specs.Room.{answered_with};
+ghost use Rattle.ck_files.specs.Worlds.{StandAlike};
+
+use crate::changes::give_up;
+use ck_alloc::Blocks;
+use ck_model::{Meta, NameBytes, Reply};
+use ck_remove::{step, work};
+use ck_table::{find, mark_gone};
+
+/// Removes the checkpoint with this name. It is gone at once; its entries stay, for those that read
+/// through it, until steps have moved them.
+pub fn remove<M: Meta>(meta: &mut M, name: &NameBytes) -> Reply
+    requires ours { IsOurs (M.table meta.old) }
+    ensures reply { (store : Store) (mounts : Mounts) →
+        done (world_on store mounts (M.table meta.old)) (dropped (world_on store mounts (M.table meta.old)) name.now)
+        ≡ answered_with result (world_on store mounts (M.table meta.new)) }
+    ensures ordinary { is_fault result ≡ false }
+    ensures removed { result ≡ Done → IsRemoved (M.table meta.old) (M.table meta.new) }
+    ensures ours { IsOurs (M.table meta.new) }
+    ensures entries { (M.table meta.new).entries ≡ (M.table meta.old).entries }
+    ensures blocks { (M.table meta.new).blocks ≡ (M.table meta.old).blocks }
+    ensures records { (M.table meta.new).records ≡ (M.table meta.old).records }
+{
+    match find(meta, name) {
+        Some(id) => {
+            mark_gone(meta, id);
+            Reply::Done
+        }
+        None => Reply::NoCkpt,
+    }
+}
+
+/// Takes one step of what is left to remove, which nobody sees: an entry of a checkpoint that is
+/// gone moves on or goes, or the checkpoint itself where it has none. `false` where none is gone.
+pub fn remove_step<M: Meta>(meta: &mut M, blocks: &mut Blocks) -> bool
+    requires ours { IsOurs (M.table meta.old) }
+    requires allocated { IsAllocated (M.table meta.old) blocks.old }
+    ensures alike { StandAlike (M.table meta.old) (M.table meta.new) }
+    ensures ours { IsOurs (M.table meta.new) }
+    ensures allocated { IsAllocated (M.table meta.new) blocks.new }
+    ensures busy { KeepsBusy blocks.old blocks.new }
+    ensures left { result ≡ true → left_of (M.table meta.new) + 1 ≡ left_of (M.table meta.old) }
+    ensures none { result ≡ false → NoneGone (M.table meta.new) }
+{
+    let Some(item) = work(meta) else {
+        return false;
+    };
+    let freed = step(meta, item);
+    give_up(blocks, freed);
+    true
+}
+
+/// Takes all steps that are left: no checkpoint is gone afterwards.
+pub fn drain<M: Meta>(meta: &mut M, blocks: &mut Blocks)
+    requires ours { IsOurs (M.table meta.old) }
+    requires allocated { IsAllocated (M.table meta.old) blocks.old }
+    ensures alike { StandAlike (M.table meta.old) (M.table meta.new) }
+    ensures none { NoneGone (M.table meta.new) }
+    ensures ours { IsOurs (M.table meta.new) }
+    ensures allocated { IsAllocated (M.table meta.new) blocks.new }
+    ensures busy { KeepsBusy blocks.old blocks.new }
+{
+    while remove_step(meta, blocks) {}
+}
