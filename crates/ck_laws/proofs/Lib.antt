@@ -21,3 +21,4 @@ pub mod TreeLaws
 pub mod WorldLaws
 pub mod FrozenLaws
 pub mod TableLaws
+pub mod OthersLaws

@@ -1,5 +1,5 @@
 -- What follows of the definitions alone.
-use Rattle.std.specs.Prelude.{◌≡◌, ◌≢◌, ◌≤◌, ◌<◌, ⊤, ℕ, ◌+◌, false, List, [], ◌∷◌, length, Option, Some, None, IfSome, nat_eq, if◌then◌else◌, find}
+use Rattle.std.specs.Prelude.{◌≡◌, ◌≢◌, ◌≤◌, ◌<◌, ⊤, ℕ, ◌+◌, false, List, [], ◌∷◌, ◌++◌, length, Option, Some, None, IfSome, nat_eq, if◌then◌else◌, find}
 use Rattle.std.specs.List.{AllByRecursion}
 use Rattle.std.specs.Option.{option_map, option_or, option_map_or}
 use Rattle.std.specs.FinMap as map
@@ -20,7 +20,7 @@ use Rattle.ck_model.specs.World.{World, Checkpoint, Mounts, empty_world, has_id,
 use Rattle.ck_model.specs.Streams.{Texts, image, changed, applied}
 use Rattle.ck_model.specs.Step.{step}
 use Rattle.ck_laws.specs.Tree.{IsGrown}
-use Rattle.ck_model.specs.History.{Past, CallsBy, begun, past_after, IsLegal, state, created_id}
+use Rattle.ck_model.specs.History.{Past, CallsBy, begun, past_after, IsLegal, state, created_id, numbers_of}
 
 -- the ids of these checkpoints rise from this number on, and are below the next id
 abbrev pub IdsRise : ℕ → List Checkpoint → ℕ → Type 0
@@ -134,6 +134,25 @@ FrozenMapsStay =
     AllByRecursion
     (λ checkpoint. option_map (shown_by checkpoint.kind) (frozen texts calls w history checkpoint.id) ≡ Some checkpoint.cells)
     (state texts calls w history).checkpoints
+
+-- of a checkpoint that stands with its data, that is the checkpoint's map
+abbrev pub KeptMapsAreFrozen : Type 0
+KeptMapsAreFrozen =
+    (texts : Texts) (calls : CallsBy) (w : World) (history : List Entry) → IsOrdered w → IsLegal texts calls w history →
+    (id : ℕ) (checkpoint : Checkpoint) → find (has_id id) (state texts calls w history).checkpoints ≡ Some checkpoint → checkpoint.kind ≡ Keeping →
+    frozen texts calls w history id ≡ Some checkpoint.cells
+
+-- what was frozen under an id stays so, however a history goes on
+abbrev pub FrozenMapsLast : Type 0
+FrozenMapsLast =
+    (texts : Texts) (calls : CallsBy) (w : World) (history more : List Entry) (id : ℕ) (cells : Cells) →
+    frozen texts calls w history id ≡ Some cells → frozen texts calls w (history ++ more) id ≡ Some cells
+
+-- an actor's letter stands for the same id until an entry of that actor comes
+abbrev pub MountsLast : Type 0
+MountsLast =
+    (texts : Texts) (calls : CallsBy) (w : World) (history more : List Entry) (actor letter : ℕ) → numbers_of more actor ≡ [] →
+    map.get (state texts calls w (history ++ more)).mounts (actor, letter) ≡ map.get (state texts calls w history).mounts (actor, letter)
 
 -- the checkpoint with this id isn't one that is nodata in this world
 abbrev pub KeptData : World → ℕ → Type 0

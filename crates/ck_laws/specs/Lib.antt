@@ -1,3 +1,4 @@
 pub mod Tree
 pub mod Laws
 pub mod Ordinary
+pub mod Fits

@@ -1,4 +1,5 @@
-ghost use Rattle.ck_laws.specs.Laws.{CallsKeepTrees, CallsKeepWorlds, ChangesApply, FrozenChangesApply, FrozenMapsAgree, FrozenMapsStay, OrderStays, TablesStand, TreesBegin, TreesStay, WorldsBegin, WorldsStay};
+ghost use Rattle.ck_laws.specs.Fits.{FitsLast};
+ghost use Rattle.ck_laws.specs.Laws.{CallsKeepTrees, CallsKeepWorlds, ChangesApply, FrozenChangesApply, FrozenMapsAgree, FrozenMapsLast, FrozenMapsStay, KeptMapsAreFrozen, MountsLast, OrderStays, TablesStand, TreesBegin, TreesStay, WorldsBegin, WorldsStay};
 
 /// What a checkpoint froze stays: after every legal history of a well-formed world, each checkpoint
 /// that stands has the primary map of the entry that created it, or, if it stood at the beginning,
@@ -41,4 +42,15 @@ pub fn trees_stay()
     ensures begin { TreesBegin }
     ensures calls { CallsKeepTrees }
     ensures histories { TreesStay }
+{}
+
+/// As a history goes on, what was frozen under an id stays so, and an actor's letter stands for the
+/// same id until an entry of that actor comes. A checkpoint that stands with its data has the map that
+/// was frozen under its id. So a read of a frozen file that is on its way goes on to fit its call, whatever
+/// other actors do.
+pub fn frozen_maps_last()
+    ensures maps { FrozenMapsLast }
+    ensures mounts { MountsLast }
+    ensures kept { KeptMapsAreFrozen }
+    ensures reads { FitsLast }
 {}

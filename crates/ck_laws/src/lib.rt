@@ -3,4 +3,6 @@
 
 mod laws;
 
-pub use laws::{changes_apply, frozen_maps_agree, frozen_maps_stay, trees_stay, worlds_stay};
+pub use laws::{
+    changes_apply, frozen_maps_agree, frozen_maps_last, frozen_maps_stay, trees_stay, worlds_stay,
+};
