@@ -12,5 +12,5 @@ mod writes;
 
 pub use fault::Fault;
 pub use range::DataArea;
-pub use reads::{cread, read};
+pub use reads::read;
 pub use writes::apply_planned;

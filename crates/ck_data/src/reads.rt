@@ -1,7 +1,7 @@
 ghost use Rattle.std.specs.Prelude.{◌≡◌, ◌+◌, ◌≤◌, false, IsTrue, IfOk, IfErr};
 ghost use Rattle.ck_model.specs.Limits.{file_limit};
 ghost use Rattle.ck_model.specs.World.{World};
-ghost use Rattle.ck_model.specs.ReadCalls.{range_read, checkpoint_read};
+ghost use Rattle.ck_model.specs.ReadCalls.{range_read};
 ghost use Rattle.ck_model.specs.History.{is_fault};
 ghost use Rattle.ck_model.specs.Step.{answered};
 ghost use Rattle.ck_model.specs.TableWorld.{values_of, world_on};
@@ -15,7 +15,6 @@ ghost use Rattle.ck_disk.specs.Runs.{OnlyReads};
 use crate::range::read_range;
 use crate::{DataArea, Fault};
 use ck_disk::Disk;
-use ck_files::mounted_at;
 use ck_model::{Meta, Mounts, Octets, Path, Reply};
 use ck_tree::file_at;
 use std::alloc::Global;
@@ -73,35 +72,4 @@ pub fn read<M: Meta, D: Disk>(
     ensures fault { IfErr result (IsReadingFault (D.means disk.old) (D.means disk.new)) }
 {
     range_in(alloc, meta, disk, area, 0, path, at, len)
-}
-
-/// Reads a file of a mounted checkpoint, or says why not.
-pub fn cread<M: Meta, D: Disk>(
-    alloc: Global,
-    meta: &M,
-    mounts: &Mounts,
-    disk: &mut D,
-    area: DataArea,
-    actor: u32,
-    letter: u8,
-    path: &Path,
-    at: u64,
-    len: u32,
-) -> Result<Reply, Fault>
-    requires limit { at ≤ file_limit }
-    requires ours { IsOurs (M.table meta.now) }
-    requires blocks { area.blocks ≡ (M.table meta.now).blocks }
-    requires area { area.base + area.blocks ≤ (D.means disk.old).size }
-    ensures reply { IfOk result (λ reply. IsTrue (D.means disk.old).tells →
-        let w = world_on (store_on (D.means disk.old).shows area.base) mounts.now (M.table meta.now) in
-        answered w (checkpoint_read w actor letter path.now at len)
-        ≡ answered_with reply (world_on (store_on (D.means disk.new).shows area.base) mounts.now (M.table meta.now))) }
-    ensures ordinary { IfOk result (λ reply. is_fault reply ≡ false) }
-    ensures device { OnlyReads (D.means disk.old) (D.means disk.new) }
-    ensures fault { IfErr result (IsReadingFault (D.means disk.old) (D.means disk.new)) }
-{
-    match mounted_at(meta, mounts, actor, letter) {
-        Ok(id) => range_in(alloc, meta, disk, area, id, path, at, len),
-        Err(reply) => Ok(reply),
-    }
 }

@@ -78,12 +78,12 @@ module _ {D : Type 0} (blocks records : ℕ) (old new : Meaning) (volume : Engin
   committed told =
       let new_told : IsTrue new.tells = subst IsTrue (sym runs.tells) told in
       record {
-          ours = ours;
-          limit = blocks_are;
-          records = records_are;
-          busy = λ block named. ap (λ b. b || set.contains (blocks_of volume).pending block) (allocated.used block ∙ ap (λ b. b || false) named);
-          safe = synced-safe place t new new_law new_told synced (holds told);
-          world = empty-is;
+        ours = ours;
+        limit = blocks_are;
+        records = records_are;
+        busy = λ block named. ap (λ b. b || set.contains (blocks_of volume).pending block) (allocated.used block ∙ ap (λ b. b || false) named);
+        safe = synced-safe place t new new_law new_told synced (holds told);
+        world = empty-is;
       }
 
   pub volume-formatted : IsFormatted blocks records old new volume

@@ -5,3 +5,4 @@ pub mod Engine
 pub mod Opened
 pub mod Exact
 pub mod Formatted
+pub mod ReadAnswer

@@ -2,14 +2,14 @@ ghost use Rattle.std.specs.Prelude.{◌≡◌, ◌-◌, ◌≤◌, true, false, 
 ghost use Rattle.ck_model.specs.declared.call.Call.TheVariants.{Sync};
 ghost use Rattle.ck_model.specs.Limits.{file_limit};
 ghost use Rattle.ck_model.specs.History.{is_fault};
-ghost use Rattle.ck_model.specs.ReadCalls.{range_read, checkpoint_read};
+ghost use Rattle.ck_model.specs.ReadCalls.{range_read};
 ghost use Rattle.ck_model.specs.TableWorld.{world_on};
 ghost use Rattle.ck_model.specs.Step.{answered, changing, step};
 ghost use Rattle.ck_model.specs.Streams.{Texts};
 ghost use Rattle.ck_model.specs.Values.{Store};
 ghost use Rattle.ck_model.specs.World.{World, unmounted};
 ghost use Rattle.ck_files.specs.Allocated.{KeepsBusy};
-ghost use Rattle.ck_files.specs.Built.{IsBuilt, IsQuiet};
+ghost use Rattle.ck_files.specs.Built.{is_cread, IsBuilt, IsQuiet};
 ghost use Rattle.ck_files.specs.Files.{AreFiles};
 ghost use Rattle.ck_files.specs.Freeze.{Freezes};
 ghost use Rattle.ck_files.specs.Removal.{Removes};
@@ -22,7 +22,7 @@ ghost use Rattle.ck_engine.specs.Engine.{disk_of, table_of, mounts_of, blocks_of
 ghost use Rattle.ck_data.specs.Writes.{IsWritingFault};
 
 use crate::engine::Engine;
-use ck_data::{Fault, apply_planned, cread, read};
+use ck_data::{Fault, apply_planned, read};
 use ck_disk::Disk;
 use ck_files::{
     Planned, ckpts, cls, create, drain, info, ls, mount, plan_changes, remove, stat, umount, used,
@@ -115,40 +115,6 @@ impl<D: Disk> Engine<D> {
         )
     }
 
-    fn cread(
-        &mut self,
-        alloc: Global,
-        actor: u32,
-        letter: u8,
-        path: &Path,
-        at: u64,
-        len: u32,
-    ) -> Result<Reply, Fault>
-        requires whole { IsWhole (D.means (disk_of self.old)) self.old }
-        requires limit { at ≤ file_limit }
-        ensures attempt { IsAttempt (D.means (disk_of self.old)) (D.means (disk_of self.new)) self.old self.new }
-        ensures goes_on { GoesOnOrBreaks (D.means (disk_of self.old)) (D.means (disk_of self.new)) self.old self.new result }
-        ensures ok { IfOk result (λ reply. IsTrue (D.means (disk_of self.old)).tells → let w = world_of (D.means (disk_of self.old)).shows self.old in
-            answered w (checkpoint_read w actor letter path.now at len) ≡ answered_with reply (world_of (D.means (disk_of self.new)).shows self.new)) }
-        ensures ordinary { IfOk result (λ reply. is_fault reply ≡ false) }
-        ensures err { OnErr result (IsTrue (D.means (disk_of self.old)).tells → world_of (D.means (disk_of self.new)).shows self.new ≡ world_of (D.means (disk_of self.old)).shows self.old) }
-        ensures fault { IfErr result (IsWritingFault (D.means (disk_of self.old)) (D.means (disk_of self.new))) }
-    {
-        let area = self.area();
-        cread(
-            alloc,
-            &self.slots,
-            &self.mounts,
-            &mut self.disk,
-            area,
-            actor,
-            letter,
-            path,
-            at,
-            len,
-        )
-    }
-
     /// Does a call that makes no call of the device.
     fn answer_quietly(
         &mut self,
@@ -221,7 +187,8 @@ impl<D: Disk> Engine<D> {
         }
     }
 
-    /// Does an actor's call at a moment. A failure leaves the world as it was.
+    /// Does an actor's call at a moment, which isn't a read of a checkpoint. A failure leaves the world as
+    /// it was.
     pub fn answer(
         &mut self,
         alloc: Global,
@@ -231,6 +198,7 @@ impl<D: Disk> Engine<D> {
     ) -> Result<Reply, Fault>
         requires whole { IsWhole (D.means (disk_of self.old)) self.old }
         requires built { IsBuilt call.now }
+        requires at_once { is_cread call.now ≡ false }
         ensures attempt { IsAttempt (D.means (disk_of self.old)) (D.means (disk_of self.new)) self.old self.new }
         ensures goes_on { GoesOnOrBreaks (D.means (disk_of self.old)) (D.means (disk_of self.new)) self.old self.new result }
         ensures ok { IfOk result (λ reply. IsTrue (D.means (disk_of self.old)).tells → (texts : Texts) →
@@ -256,9 +224,6 @@ impl<D: Disk> Engine<D> {
             | Call::Fill(_, _, _, _)
             | Call::Trunc(_, _) => self.change(alloc, call),
             Call::Read(path, at, len) => self.read(alloc, path, *at, *len),
-            Call::Cread(letter, path, at, len) => {
-                self.cread(alloc, actor, *letter, path, *at, *len)
-            }
             Call::Sync => {
                 self.commit(alloc)?;
                 Ok(Reply::Done)

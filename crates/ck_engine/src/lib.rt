@@ -6,7 +6,9 @@ mod background;
 mod engine;
 mod format;
 mod open;
+mod reads;
 
 pub use engine::Engine;
 pub use format::FormatFault;
 pub use open::OpenFault;
+pub use reads::ReadAnswer;

@@ -1,5 +1,5 @@
 -- The calls that a volume has today.
-use Rattle.std.specs.Prelude.{◌≡◌, ◌≤◌, ⊤, false}
+use Rattle.std.specs.Prelude.{◌≡◌, ◌≤◌, ⊤, Bool, true, false}
 use Rattle.ck_model.specs.declared.call.Call.{Call}
 use Rattle.ck_model.specs.declared.call.Call.TheVariants.{Make, Mkdir, Rm, Rmdir, Mv, Write, Fill, Trunc, Read, List as Ls, Stat, Create, Remove, Ckpts, Mount, Umount, Cread, Clist, Info, Sync}
 use Rattle.ck_model.specs.Limits.{file_limit}
@@ -42,3 +42,8 @@ IsQuiet (Umount letter) = ⊤
 IsQuiet (Clist letter path) = ⊤
 IsQuiet Info = ⊤
 IsQuiet _ = ⊥
+
+-- a read of a mounted checkpoint
+abbrev pub is_cread : Call → Bool
+is_cread (Cread letter path place len) = true
+is_cread _ = false

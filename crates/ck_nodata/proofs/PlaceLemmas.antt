@@ -1,14 +1,14 @@
 -- The first data block that is left to strip, looked for behind one up to which nothing is.
-use Rattle.std.proofs.Common.{◌≡◌, ℕ, ◌<◌, ◌≤◌, Bool, true, false, cond, ◌&&◌, List, [], ◌∷◌, ◌++◌, filter, find, inl, inr, ◌⊎◌, Option, Some, None, IfSome, IsSome, nat_lt, if◌then◌else◌, refl, sym, ap, subst, ◌∙◌, arith}
+use Rattle.std.proofs.Common.{◌≡◌, ℕ, ◌<◌, ◌≤◌, Bool, true, false, cond, List, [], ◌∷◌, ◌++◌, filter, find, inl, inr, Option, Some, None, IfSome, is_some, nat_lt, if◌then◌else◌, refl, sym, ap, subst, ◌∙◌, arith}
 use Rattle.std.specs.Option.{option_map, option_or}
 use Rattle.std.specs.List.{AllByRecursion}
 use Rattle.std.specs.FinMap as map
-use Rattle.std.proofs.lemmas.Bool.{and_from, cases_lt}
+use Rattle.std.proofs.lemmas.Bool.{and_from, cases_lt, true≢false}
 use Rattle.std.proofs.lemmas.Bool.Decides.{nat_tests}
 use Rattle.ck_model.specs.declared.key.Key.{Key}
 use Rattle.ck_model.specs.Table.{Table, IsTable, column, keys_in, newer}
-use Rattle.ck_model.specs.Chain.{is_live, keeps_data}
-use Rattle.ck_model.proofs.CaseLaws.{and_left, none_some}
+use Rattle.ck_model.specs.Chain.{is_live}
+use Rattle.ck_model.proofs.CaseLaws.{and_left, none_some, some_is}
 use Rattle.ck_chain.specs.Needless.{in_between}
 use Rattle.ck_chain.specs.Order.{is_behind}
 use Rattle.ck_chain.proofs.NewerLaws.{newer_split}
@@ -125,3 +125,16 @@ found_newer t last done none =
       | inl lower ↦ none_lower t last done fs lower
       | inr ge ↦ let same : last.id ≡ fs = omega (arith, le, ge) in subst (λ n. strip_in t n None ≡ None) same (sym (same_in t last done) ∙ none)
     ])
+
+none_is : (o : Option StripItem) → is_some o ≡ false → o ≡ None
+none_is None h = refl
+none_is (Some item) h = absurd (true≢false h)
+
+-- what is looked for there, in the two cases
+pub where_some : (t : Table) (last : StripItem) (o : Option StripItem) → IsTable t → IsStrippedTo t last → o ≡ strip_in t last.id (Some last.key) → is_some o ≡ true → o ≡ strip_work_of t
+where_some t last o lawful done is some =
+    let item = some_is o some in
+    item.1 ∙ sym (found_in t last item.0 lawful done (sym is ∙ item.1))
+
+pub where_none : (t : Table) (last : StripItem) (o : Option StripItem) → IsStrippedTo t last → o ≡ strip_in t last.id (Some last.key) → is_some o ≡ false → first_strip t (newer t last.id) ≡ strip_work_of t
+where_none t last o done is none = found_newer t last done (sym is ∙ none_is o none)

@@ -1,5 +1,5 @@
 -- What is left to strip after a change that nobody sees, and after a strip.
-use Rattle.std.proofs.Common.{◌≡◌, ℕ, ◌<◌, Bool, true, false, cond, ◌&&◌, ◌||◌, not, T, ◌⊎◌, inl, inr, List, [], ◌∷◌, ◌++◌, filter, find, map as list_map, Option, Some, None, IfSome, is_some, if◌then◌else◌, refl, sym, ap, subst, ◌∙◌, arith}
+use Rattle.std.proofs.Common.{◌≡◌, ℕ, ◌<◌, Bool, true, false, cond, ◌||◌, not, T, ◌⊎◌, inl, inr, List, [], ◌∷◌, ◌++◌, filter, find, map as list_map, Option, Some, None, IfSome, is_some, if◌then◌else◌, refl, sym, ap, subst, ◌∙◌, arith}
 use Rattle.std.specs.Ordering.{eq_by_cmp, is_lt}
 use Rattle.std.specs.Option.{option_map, option_map_or, option_or}
 use Rattle.std.specs.List.{AllByRecursion}

@@ -1,6 +1,7 @@
 -- A read of a checkpoint's file under way: the bytes that it has, those that its next turn takes, and how many turns are left.
-use Rattle.std.specs.Prelude.{◌≡◌, ◌≤◌, ◌⊎◌, ℕ, ◌+◌, ◌-◌, ◌%◌, Bool, List, length, min, max, map as list_map, nat_le, Ok}
+use Rattle.std.specs.Prelude.{◌≡◌, ◌≤◌, ◌⊎◌, ℕ, ◌+◌, ◌-◌, ◌%◌, Bool, false, List, Option, length, min, max, map as list_map, nat_le, Ok}
 use Rattle.std.specs.List.{range_with_len}
+use Rattle.std.specs.Option.{option_map_or}
 use Rattle.ck_model.specs.Cells.{Cells, size_at}
 use Rattle.ck_model.specs.Changes.{touched}
 use Rattle.ck_model.specs.Contents.{file_byte, file_range}
@@ -39,12 +40,29 @@ turns_of place count = max 1 (length (touched place count))
 abbrev pub turns_left : ReadProgress → ℕ
 turns_left progress = turns_of (next_place progress) (left_len progress)
 
+-- the turns of the whole range, and those that it has had of them
+abbrev pub all_turns : ReadProgress → ℕ
+all_turns progress = turns_of progress.from (progress.to - progress.from)
+
+abbrev pub turns_had : ReadProgress → ℕ
+turns_had progress = all_turns progress - turns_left progress
+
+-- none before it was begun
+abbrev pub had_by : Option ReadProgress → ℕ
+had_by begun = option_map_or turns_had begun 0
+
 -- whole blocks' parts of the range were taken, from its beginning on
 pub record IsUnderWay (progress : ReadProgress) : Type 0 where
   pub within : length progress.bytes ≤ progress.to - progress.from
   pub limit : progress.to ≤ file_limit
   -- the next byte is the range's first, or begins a block, or isn't there
   pub edge : (next_place progress ≡ progress.from) ⊎ (next_place progress % 4096 ≡ 0) ⊎ (next_place progress ≡ progress.to)
+
+-- a read from this place on that was begun and isn't through
+pub record IsOnWay (at : ℕ) (progress : ReadProgress) : Type 0 where
+  pub under_way : IsUnderWay progress
+  pub from_is : progress.from ≡ at
+  pub more : is_through progress ≡ false
 
 -- the bytes are those that this map has from the range's beginning on, and the range ends within the file
 pub record ReadFits (cells : Cells) (progress : ReadProgress) : Type 0 where

@@ -1,6 +1,6 @@
 -- How many entries the filesets from one on have.
-use Rattle.std.proofs.Common.{◌≡◌, ℕ, ◌+◌, ◌-◌, ◌<◌, ◌≤◌, Bool, true, false, cond, ◌&&◌, ◌||◌, List, [], ◌∷◌, length, filter, map as list_map, Option, Some, None, is_some, IsSome, nat_lt, nat_le, nat_eq, if◌then◌else◌, refl, sym, ap, subst, ◌∙◌, inl, inr, arith}
-use Rattle.std.specs.Ordering.{eq_by_cmp, is_eq}
+use Rattle.std.proofs.Common.{◌≡◌, ℕ, ◌+◌, ◌-◌, ◌<◌, ◌≤◌, Bool, true, false, cond, ◌&&◌, ◌||◌, List, [], ◌∷◌, length, filter, Option, Some, None, is_some, IsSome, nat_lt, nat_le, nat_eq, if◌then◌else◌, refl, sym, ap, subst, ◌∙◌, inl, inr, arith}
+use Rattle.std.specs.Ordering.{eq_by_cmp}
 use Rattle.std.specs.List.{list_any, AllByRecursion}
 use Rattle.std.specs.FinMap.{entries_sorted}
 use Rattle.std.specs.FinMap as map
@@ -12,7 +12,6 @@ use Rattle.ck_model.specs.declared.held.Held.{Held}
 use Rattle.ck_model.specs.Key.{entry_cmp, entry_cmp_exact, entry_cmp_total}
 use Rattle.ck_model.specs.Table.{Table, Entries, IsSized, column, newer, with_entry, written}
 use Rattle.ck_model.specs.Rules.{IsOrderly}
-use Rattle.ck_model.proofs.CellLaws.{equal}
 use Rattle.ck_model.proofs.FilesetLaws.{all_found}
 use Rattle.ck_model.proofs.SizeLaws.{len-retain_keys}
 use Rattle.ck_model.proofs.ValueLaws.{tied_entry}

@@ -1,5 +1,5 @@
 -- An entry of the newest fileset moves into the primary.
-use Rattle.std.proofs.Common.{◌≡◌, ◌≢◌, ◌⊎◌, ℕ, ◌+◌, ◌<◌, ◌≤◌, Bool, true, false, cond, not, inl, inr, List, [], ◌∷◌, Option, Some, None, is_some, IsSome, IfSome, if◌then◌else◌, nat_eq, refl, sym, ap, subst, ◌∙◌, arith}
+use Rattle.std.proofs.Common.{◌≡◌, ℕ, ◌+◌, ◌<◌, ◌≤◌, true, false, cond, inl, inr, [], ◌∷◌, Option, Some, None, is_some, IsSome, IfSome, if◌then◌else◌, nat_eq, refl, sym, ap, subst, ◌∙◌, arith}
 use Rattle.std.specs.Ordering.{eq_by_cmp}
 use Rattle.std.specs.Option.{option_or, option_map}
 use Rattle.std.specs.FinMap as map
@@ -11,8 +11,8 @@ use Rattle.ck_model.specs.declared.held.Held.TheVariants.{Absent, Plain, Extent,
 use Rattle.ck_model.specs.Key.{key_cmp}
 use Rattle.ck_model.specs.Held.{IsEntry}
 use Rattle.ck_model.specs.Table.{Table, IsSized, IsTable, column, newer, record_count, spare_count, with_entry}
-use Rattle.ck_model.specs.Chain.{as_mark, first_entry, is_live, is_live_data, keeps_data, present, seen}
-use Rattle.ck_model.specs.Rules.{IsOrderly, IsOwn, first_holder, block_in}
+use Rattle.ck_model.specs.Chain.{as_mark, first_entry, is_live_data, keeps_data, present, seen}
+use Rattle.ck_model.specs.Rules.{IsOrderly, IsOwn, first_holder}
 use Rattle.ck_model.proofs.CaseLaws.{none_some, some_is}
 use Rattle.ck_chain.specs.Fits.{Fits}
 use Rattle.ck_chain.specs.Kept.{read_as}
@@ -24,7 +24,7 @@ use Rattle.ck_chain.proofs.NameLaws.{naming_of, named_else, named_here, named_wi
 use Rattle.ck_chain.proofs.OrderlyLaws.{orderly_with, orderly_without, positive_id, still_stood}
 use Rattle.ck_chain.proofs.ReadLaws.{keeps_newer, live_stands, older_reads}
 use Rattle.ck_restore.specs.Entries.{entries_from}
-use Rattle.ck_restore.specs.Freed.{AreReleased, is_among, listed}
+use Rattle.ck_restore.specs.Freed.{AreReleased, listed}
 use Rattle.ck_restore.specs.Older.{LeavesOlder, OlderNeeded, OthersNeeded}
 use Rattle.ck_restore.specs.Promoted.{promoted}
 use Rattle.ck_restore.proofs.EntriesLemmas.{entries_from-older, entries_from-without}

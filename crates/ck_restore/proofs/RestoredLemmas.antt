@@ -1,8 +1,8 @@
 -- The table once all entries from a checkpoint on have moved into the primary, and its record goes.
-use Rattle.std.proofs.Common.{◌≡◌, ◌⊎◌, ℕ, ◌<◌, ◌≤◌, Bool, true, false, cond, not, ◌&&◌, inl, inr, List, [], ◌∷◌, Option, Some, None, is_some, IsSome, if◌then◌else◌, nat_eq, nat_lt, refl, sym, ap, subst, ◌∙◌, arith}
+use Rattle.std.proofs.Common.{◌≡◌, ℕ, ◌<◌, ◌≤◌, true, false, cond, not, ◌&&◌, inl, inr, [], ◌∷◌, Some, None, is_some, IsSome, if◌then◌else◌, nat_eq, nat_lt, refl, sym, ap, ◌∙◌, arith}
 use Rattle.std.specs.Option.{option_or, option_map, option_map_or}
 use Rattle.std.specs.FinMap as map
-use Rattle.std.proofs.lemmas.Bool.{and_parts, cases_lt, eq-eqb, false≢true, false_from_ne_true, lt-ltb}
+use Rattle.std.proofs.lemmas.Bool.{and_parts, cases_lt, false≢true}
 use Rattle.std.proofs.lemmas.Bool.Decides.{nat_tests}
 use Rattle.ck_model.specs.declared.key.Key.{Key}
 use Rattle.ck_model.specs.declared.held.Held.{Held}
@@ -13,7 +13,7 @@ use Rattle.ck_model.specs.Table.{Table, IsTable, column, newer, record_count, wi
 use Rattle.ck_model.specs.Chain.{as_mark, first_entry, is_live, is_live_data, keeps_data, present, seen, value_of}
 use Rattle.ck_model.specs.Rules.{IsOrderly, IsOwn, IsSound}
 use Rattle.ck_chain.proofs.OrderlyLaws.{positive_id}
-use Rattle.ck_table.proofs.IdLaws.{get-recorded, get-recorded_other, get-recorded_same}
+use Rattle.ck_table.proofs.IdLaws.{get-recorded_other, get-recorded_same}
 use Rattle.ck_restore.specs.Older.{LeavesOlder, OlderNeeded}
 use Rattle.ck_restore.proofs.NewestLemmas.{none_behind}
 use Rattle.ck_restore.proofs.UnlinkedLemmas.{data_stands, fewer_filesets, own_data, unlinked_needed, unlinked_older, unlinked_orderly}

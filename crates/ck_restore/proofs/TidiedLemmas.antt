@@ -1,5 +1,5 @@
 -- What tidying older checkpoints leaves, one after the other.
-use Rattle.std.proofs.Common.{◌≡◌, ◌≢◌, ◌↔◌, ℕ, ◌<◌, ◌≤◌, true, false, not, inl, inr, Some, None, IsSome, refl, sym, ap, subst, ◌∙◌, arith}
+use Rattle.std.proofs.Common.{◌≡◌, ◌≢◌, ℕ, ◌<◌, ◌≤◌, true, false, not, inl, inr, Some, None, refl, sym, ap, subst, ◌∙◌, arith}
 use Rattle.std.specs.Ordering.{eq_by_cmp, is_eq}
 use Rattle.std.specs.Option.{option_map_or}
 use Rattle.std.specs.FinMap as map
@@ -9,11 +9,10 @@ use Rattle.ck_model.specs.declared.key.Key.{Key}
 use Rattle.ck_model.specs.Key.{key_cmp, key_cmp_total}
 use Rattle.ck_model.specs.declared.held.Held.TheVariants.{Absent}
 use Rattle.ck_model.specs.declared.checkpoint.Fileset.{Fileset}
-use Rattle.ck_model.specs.Table.{Table, Filesets, IsTable, column}
+use Rattle.ck_model.specs.Table.{Table, Filesets, IsTable}
 use Rattle.ck_model.specs.Chain.{is_live}
-use Rattle.ck_model.specs.Rules.{IsNeeded, IsOrderly}
+use Rattle.ck_model.specs.Rules.{IsOrderly}
 use Rattle.ck_model.proofs.CaseLaws.{none_some}
-use Rattle.ck_chain.specs.Named.{IsNamed}
 use Rattle.ck_chain.specs.Needless.{tidied}
 use Rattle.ck_chain.proofs.ColumnLaws.{same_or_other}
 use Rattle.ck_chain.proofs.ReadLaws.{live_stands}
@@ -21,7 +20,7 @@ use Rattle.ck_chain.proofs.OrderlyLaws.{positive_id}
 use Rattle.ck_chain.proofs.HolderLaws.{needed_tidied, orderly_tidied}
 use Rattle.ck_chain.proofs.TidyLaws.{column-tidied, tidied_reads, tidied_shrinks}
 use Rattle.ck_chain.proofs.NameLaws.{named_before_tidied, named_tidied}
-use Rattle.ck_restore.specs.Entries.{entries_from, IsNextBelow}
+use Rattle.ck_restore.specs.Entries.{IsNextBelow}
 use Rattle.ck_restore.specs.Older.{LeavesOlder, LeavesTidied, NeededAt, OlderNeeded, OthersNeeded}
 use Rattle.ck_restore.proofs.EntriesLemmas.{entries_from-tidied}
 

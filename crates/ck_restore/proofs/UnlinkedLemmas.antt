@@ -1,23 +1,23 @@
 -- The newest fileset's record is taken away once it has no entry any more.
-use Rattle.std.proofs.Common.{◌≡◌, ◌≢◌, ◌⊎◌, ℕ, ◌+◌, ◌-◌, ◌<◌, ◌≤◌, Bool, true, false, cond, not, ◌&&◌, ◌||◌, inl, inr, List, [], ◌∷◌, length, filter, Option, Some, None, is_some, IsSome, IsSomeAnd, if◌then◌else◌, nat_eq, nat_le, nat_lt, refl, sym, ap, subst, ◌∙◌, arith}
+use Rattle.std.proofs.Common.{◌≡◌, ◌≢◌, ◌⊎◌, ℕ, ◌-◌, ◌<◌, ◌≤◌, Bool, true, false, cond, not, ◌&&◌, ◌||◌, inl, inr, List, [], ◌∷◌, length, filter, Option, Some, None, is_some, IsSome, IsSomeAnd, nat_eq, nat_le, nat_lt, refl, sym, ap, subst, ◌∙◌, arith}
 use Rattle.std.specs.Ordering.{nat_cmp}
 use Rattle.std.specs.List.{list_any}
 use Rattle.std.specs.Option.{option_or, option_map, option_map_or}
 use Rattle.std.specs.FinMap as map
 use Rattle.std.proofs.lemmas.Cmp.{nat_cmp_total}
-use Rattle.std.proofs.lemmas.Bool.{and_from, eqb-true, eq-eqb, false≢true, true≢false, false_from_ne_true, le-leb, lt-ltb, or_left, or_right}
+use Rattle.std.proofs.lemmas.Bool.{and_from, eqb-true, false≢true, false_from_ne_true, le-leb, lt-ltb, or_left, or_right}
 use Rattle.std.proofs.lemmas.Bool.Decides.{nat_tests}
 use Rattle.ck_model.specs.declared.key.Key.{Key}
 use Rattle.ck_model.specs.declared.held.Held.{Held}
-use Rattle.ck_model.specs.declared.held.Held.TheVariants.{Absent, Mark}
+use Rattle.ck_model.specs.declared.held.Held.TheVariants.{Absent}
 use Rattle.ck_model.specs.declared.checkpoint.Fileset.{Fileset}
 use Rattle.ck_model.specs.World.{keeps_files}
-use Rattle.ck_model.specs.Table.{Table, IsTable, column, newer, record_count, with_fileset}
-use Rattle.ck_model.specs.Chain.{is_gone, is_live, is_live_data, keeps_data, live_ids, seen}
-use Rattle.ck_model.specs.Rules.{IsNeeded, IsOrderly, first_holder}
+use Rattle.ck_model.specs.Table.{Table, IsTable, column, newer, with_fileset}
+use Rattle.ck_model.specs.Chain.{is_gone, is_live, is_live_data, keeps_data, live_ids}
+use Rattle.ck_model.specs.Rules.{IsOrderly, first_holder}
 use Rattle.ck_model.proofs.CaseLaws.{none_some}
 use Rattle.ck_chain.proofs.OrderlyLaws.{positive_id}
-use Rattle.ck_table.proofs.IdLaws.{get-recorded, get-recorded_other, get-recorded_same, is_other, newer-has}
+use Rattle.ck_table.proofs.IdLaws.{get-recorded, get-recorded_other, is_other, newer-has}
 use Rattle.ck_table.proofs.WithoutLaws.{IsWithout, any-others, filter-others, holder-without, newer-without, seen-without}
 use Rattle.ck_restore.specs.Older.{LeavesOlder, OlderNeeded}
 

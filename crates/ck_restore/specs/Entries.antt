@@ -1,5 +1,5 @@
 -- How many entries the newer filesets of a table have.
-use Rattle.std.specs.Prelude.{◌≡◌, ◌<◌, ◌≤◌, ℕ, [], length, filter, Option, Some, None, IsSome, IfSome, IsSomeAnd, nat_le}
+use Rattle.std.specs.Prelude.{◌≡◌, ◌<◌, ◌≤◌, ℕ, [], length, filter, Option, IsSome, IfSome, IsSomeAnd, nat_le}
 use Rattle.std.specs.FinMap as map
 use Rattle.ck_model.specs.Table.{Table, keys_in, newer}
 

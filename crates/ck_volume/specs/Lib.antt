@@ -7,3 +7,5 @@ pub mod Kept
 pub mod Cuts
 pub mod TopCuts
 pub mod Volume
+pub mod Progress
+pub mod Turn

@@ -147,8 +147,9 @@ impl<D: Disk> Volume<D> {
         self.log.history.reserve(calls)
     }
 
-    /// Answers an actor's next call, which has this number among the actor's and began at this
-    /// moment, and puts its entry into the history. It takes no memory for that.
+    /// Makes one event of an actor's next call, which has this number among the actor's and began at this
+    /// moment. It answers the call, and puts its entry into the history, or takes one block of a checkpoint
+    /// that it reads. It takes no memory for the entry.
     pub fn event(
         &mut self,
         alloc: Global,
@@ -162,44 +163,61 @@ impl<D: Disk> Volume<D> {
         requires room { 0 < room_of self.old }
         requires number { seq ≡ length (numbers_of (history_of self.old) actor) + 1 }
         requires unspoilt { spoilt_of self.old ≡ None }
-        ensures answered { result ≡ Answered }
-        ensures progress { progress.new ≡ Fresh }
+        requires begun { IsBegunFor call.now progress.old }
+        requires fits { FitsHistory (D.means (origin_of self.old)) (told_of self.old) (history_of self.old) actor call.now progress.old }
+
+        // A block of a checkpoint was read, and more are left.
+        ensures more { OnMore result (GoesOn D.means self.old self.new actor call.now progress.old progress.new) }
 
         // Its one entry is legal where the history stands.
-        ensures added { history_of self.new ≡ history_of self.old ++ newest (history_of self.new) ∷ [] }
-        ensures room { room_of self.new + 1 ≡ room_of self.old }
-        ensures entry { IsEntryOf actor seq at (newest (history_of self.new)) }
-        ensures follows { IsTrue (D.means (disk_of self.old)).tells → (texts : Texts) (calls : CallsBy) → calls actor seq ≡ Some call.now
-            → Follows texts calls (past_on (D.means (disk_of self.old)).shows self.old) (newest (history_of self.new)) (past_on (D.means (disk_of self.new)).shows self.new) }
+        ensures progress { OnAnswered result (progress.new ≡ Fresh) }
+        ensures added { OnAnswered result (history_of self.new ≡ history_of self.old ++ newest (history_of self.new) ∷ []) }
+        ensures room { OnAnswered result (room_of self.new + 1 ≡ room_of self.old) }
+        ensures entry { OnAnswered result (IsEntryOf actor seq at (newest (history_of self.new))) }
+        ensures follows { OnAnswered result (IsTrue (D.means (disk_of self.old)).tells → (texts : Texts) (calls : CallsBy) → calls actor seq ≡ Some call.now
+            → Follows texts calls (past_on (D.means (disk_of self.old)).shows self.old) (newest (history_of self.new)) (past_on (D.means (disk_of self.new)).shows self.new)) }
+
+        // Bytes of a checkpoint come with the last block that they touch, or at once where they touch none.
+        ensures last { OnAnswered result (IsLastOf call.now (newest (history_of self.new)).reply (had_of progress.old + 1)) }
 
         // A checkpoint costs one record where one is free: nothing is copied. Its removal marks that record alone.
-        ensures freezes { Freezes call.now at (newest (history_of self.new)).reply (table_of self.old) (table_of self.new) }
-        ensures removes { Removes call.now (newest (history_of self.new)).reply (table_of self.old) (table_of self.new) }
+        ensures freezes { OnAnswered result (Freezes call.now at (newest (history_of self.new)).reply (table_of self.old) (table_of self.new)) }
+        ensures removes { OnAnswered result (Removes call.now (newest (history_of self.new)).reply (table_of self.old) (table_of self.new)) }
 
         // A failed write breaks it; once it is broken it says so, and leaves the device alone.
-        ensures broken { broken_of self.new ≡ option_or (broken_of self.old) (if is_write_fault (newest (history_of self.new)).reply then Some (length_of self.old) else None) }
-        ensures refused { MatchOption (broken_of self.old) (is_broken (newest (history_of self.new)).reply ≡ false) (λ entry. (newest (history_of self.new)).reply ≡ reply.Broken entry) }
-        ensures untouched { IsSome (broken_of self.old) → disk_of self.new ≡ disk_of self.old }
-        ensures cause { HasCause (D.means (disk_of self.old)) (D.means (disk_of self.new)) (newest (history_of self.new)).reply }
+        ensures broken { OnAnswered result (broken_of self.new ≡ option_or (broken_of self.old) (if is_write_fault (newest (history_of self.new)).reply then Some (length_of self.old) else None)) }
+        ensures refused { OnAnswered result (MatchOption (broken_of self.old) (is_broken (newest (history_of self.new)).reply ≡ false) (λ entry. (newest (history_of self.new)).reply ≡ reply.Broken entry)) }
+        ensures untouched { IsSome (broken_of self.old) → (result ≡ Answered) × (disk_of self.new ≡ disk_of self.old) }
+        ensures cause { OnAnswered result (HasCause (D.means (disk_of self.old)) (D.means (disk_of self.new)) (newest (history_of self.new)).reply) }
         ensures runs { Runs (D.means (disk_of self.old)) (D.means (disk_of self.new)) }
 
         // A sync that was done has committed all entries up to itself.
-        ensures committed { committed_of self.new ≡ (if acknowledges call.now (newest (history_of self.new)).reply then length_of self.new else committed_of self.old) }
+        ensures committed { OnAnswered result (committed_of self.new ≡ (if acknowledges call.now (newest (history_of self.new)).reply then length_of self.new else committed_of self.old)) }
         ensures origin { origin_of self.new ≡ origin_of self.old }
         ensures spoilt { spoilt_of self.new ≡ spoilt_of self.old }
 
         // It remembers the call. Its history is legal from the world that its origin recovers to, up to the present one, and
         // each image that a crash may have left recovers a cut of it.
-        ensures told { told_of self.new ≡ told_of self.old ++ call.now ∷ [] }
+        ensures told { OnAnswered result (told_of self.new ≡ told_of self.old ++ call.now ∷ []) }
         ensures kept { IsKept D.means self.new }
     {
-        *progress = Progress::Fresh;
-        happen(&mut self.engine, &mut self.log, alloc, actor, seq, at, call);
-        self.told = self.told.more(call);
-        let synced = self.log.acknowledged(call);
-        let answered = self.log.history.length();
-        note_sync(&mut self.committed, answered, synced);
-        Turn::Answered
+        let turn = happen(
+            &mut self.engine,
+            &mut self.log,
+            alloc,
+            actor,
+            seq,
+            at,
+            call,
+            progress,
+        );
+        if turn == Turn::Answered {
+            self.told = self.told.more(call);
+            let synced = self.log.acknowledged(call);
+            let answered = self.log.history.length();
+            note_sync(&mut self.committed, answered, synced);
+        }
+        turn
     }
 
     /// Takes one step of what is left to do in the background: today, the removal of checkpoints that

@@ -20,6 +20,7 @@ use ck_data::Fault;
 use ck_disk::Disk;
 use ck_engine::Engine;
 use ck_model::{Call, Entry, Reply};
+use ck_read::ReadProgress;
 use std::alloc::Global;
 
 /// Whether an event answered its call, or there is more to do of it.
@@ -34,6 +35,8 @@ pub enum Turn {
 pub enum Progress {
     /// It wasn't begun, or it was answered.
     Fresh,
+    /// It reads a checkpoint.
+    Read(ReadProgress),
 }
 
 fn entry_of(actor: u32, seq: u32, at: u64, reply: Reply) -> Entry

@@ -39,10 +39,10 @@ pub returns-in-Ok-open-clause-bad_script_device : goal.returns-in-Ok-open-clause
 returns-in-Ok-open-clause-bad_script_device g c = λ line refused.
     absurd (read_or_refused (g.S.Source.means c.args.source.now) (record { calls = c.in-Ok.script.calls; turns = c.in-Ok.script.turns }) line c.in-Ok.ensures.script refused)
 
-pub returns-in-Err-open-clause-bad_script : goal.returns-in-Err-open-clause-bad_script
-returns-in-Err-open-clause-bad_script g c = λ line refused.
+pub returns-clause-bad_script : goal.returns-clause-bad_script
+returns-clause-bad_script g c = λ line refused.
     absurd (read_or_refused (g.S.Source.means c.args.source.now) (record { calls = c.in-Ok.script.calls; turns = c.in-Ok.script.turns }) line c.in-Ok.ensures.script refused)
 
-pub returns-in-Err-open-clause-bad_script_device : goal.returns-in-Err-open-clause-bad_script_device
-returns-in-Err-open-clause-bad_script_device g c = λ line refused.
+pub returns-clause-bad_script_device : goal.returns-clause-bad_script_device
+returns-clause-bad_script_device g c = λ line refused.
     absurd (read_or_refused (g.S.Source.means c.args.source.now) (record { calls = c.in-Ok.script.calls; turns = c.in-Ok.script.turns }) line c.in-Ok.ensures.script refused)

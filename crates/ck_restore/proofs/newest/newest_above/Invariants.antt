@@ -1,4 +1,4 @@
-use Rattle.std.proofs.Common.{◌≡◌, ◌-◌, ◌^◌}
+use Rattle.std.proofs.Common.{◌-◌, ◌^◌}
 use Rattle.ck_restore.proofs.NewestLemmas.{IsReached}
 use Rattle.ck_restore.proofs.newest.newest_above.Given as goal
 

@@ -1,6 +1,6 @@
 use Rattle.std.proofs.Common.{sym, subst, ◌∙◌}
 use Rattle.ck_restore.specs.Older.{LeavesTidied}
-use Rattle.ck_restore.proofs.TidiedLemmas.{tidied_one, tidied_none}
+use Rattle.ck_restore.proofs.TidiedLemmas.{tidied_one}
 use Rattle.ck_restore.proofs.older.tidy_live.Goals as goal
 
 pub returns-then-is_live-clause-tidied : goal.returns-then-is_live-clause-tidied

@@ -3,7 +3,7 @@ use Rattle.ck_model.specs.Table.{column}
 use Rattle.ck_model.specs.Rules.{IsOrderly}
 use Rattle.ck_chain.specs.Named.{block_of}
 use Rattle.ck_restore.specs.Freed.{listed}
-use Rattle.ck_restore.specs.Older.{LeavesOlder, OthersNeeded}
+use Rattle.ck_restore.specs.Older.{OthersNeeded}
 use Rattle.ck_restore.proofs.FreedLemmas.{released_still}
 use Rattle.ck_restore.proofs.TidiedLemmas.{older_then}
 use Rattle.ck_restore.proofs.PromotedLemmas.{LeavesPromoted, promoted_one}

@@ -1,4 +1,4 @@
-use Rattle.std.proofs.Common.{◌<◌, None, IsSome, sym, ap, subst, ◌∙◌, arith}
+use Rattle.std.proofs.Common.{◌<◌, None, IsSome, sym, ap, subst, arith}
 use Rattle.std.specs.FinMap as map
 use Rattle.ck_model.specs.Table.{Filesets, with_fileset}
 use Rattle.ck_model.specs.Rules.{IsOrderly}

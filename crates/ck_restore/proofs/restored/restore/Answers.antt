@@ -5,7 +5,6 @@ use Rattle.ck_model.specs.Table.{Filesets, column, record_count, with_fileset}
 use Rattle.ck_model.specs.Chain.{is_live, seen, value_of}
 use Rattle.ck_model.specs.Rules.{IsSound}
 use Rattle.ck_restore.specs.Freed.{GainsFreed}
-use Rattle.ck_restore.specs.Older.{LeavesOlder}
 use Rattle.ck_restore.proofs.FreedLemmas.{gains_freed, gains_then, gains_unlinked}
 use Rattle.ck_restore.proofs.RestoredLemmas.{restored_entries, restored_filesets, restored_kept, restored_primary, restored_records, restored_sound}
 use Rattle.ck_restore.proofs.TidiedLemmas.{older_then}

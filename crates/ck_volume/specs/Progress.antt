@@ -1,0 +1,48 @@
+-- How far a call has come that takes more than one event.
+use Rattle.std.specs.Prelude.{◌≡◌, ⊤, ℕ, ◌+◌, List, IsTrue}
+use Rattle.ck_disk.specs.Disk.{Meaning}
+use Rattle.ck_model.specs.declared.call.Call.{Call}
+use Rattle.ck_model.specs.declared.call.Call.TheVariants.{Cread}
+use Rattle.ck_model.specs.declared.entry.Entry.{Entry}
+use Rattle.ck_model.specs.declared.reply.Reply.{Reply}
+use Rattle.ck_model.specs.declared.reply.Reply.TheVariants.{Bytes}
+use Rattle.ck_model.specs.History.{CallsBy}
+use Rattle.ck_model.specs.Streams.{Texts}
+use Rattle.ck_model.specs.World.{World}
+use Rattle.ck_laws.specs.Fits.{Reading, Fits}
+use Rattle.ck_read.specs.declared.progress.ReadProgress.{ReadProgress}
+use Rattle.ck_read.specs.Progress.{turns_had, turns_of, IsOnWay}
+use Rattle.ck_engine.specs.Recovery.{Recovers}
+use Rattle.ck_volume.specs.declared.event.Progress.{Progress}
+use Rattle.ck_volume.specs.declared.event.Progress.TheVariants as progress
+use Rattle.ck_volume.specs.Told.{AreAnswered}
+
+abbrev pub reading_of : ReadProgress → Reading
+reading_of read = record { ckpt = read.ckpt; node = read.node; from = read.from; to = read.to; bytes = read.bytes }
+
+-- how many events of the call there were
+abbrev pub had_of : Progress → ℕ
+had_of progress.Fresh = 0
+had_of (progress.Read read) = turns_had read
+
+-- only a read of a checkpoint goes on, from its place on
+abbrev pub IsOfCall : Call → ReadProgress → Type 0
+IsOfCall (Cread letter path at len) read = IsOnWay at read
+IsOfCall _ read = ⊥
+
+abbrev pub IsBegunFor : Call → Progress → Type 0
+IsBegunFor call progress.Fresh = ⊤
+IsBegunFor call (progress.Read read) = IsOfCall call read
+
+-- Where the device tells what it holds, what was read fits the actor's call in this history of what the origin recovers to,
+-- whatever the texts of streams are.
+abbrev pub FitsHistory : Meaning → List Call → List Entry → ℕ → Call → Progress → Type 0
+FitsHistory origin told history actor call progress.Fresh = ⊤
+FitsHistory origin told history actor call (progress.Read read) =
+    IsTrue origin.tells → (w : World) → Recovers origin.shows w → (texts : Texts) (calls : CallsBy) → AreAnswered calls told history →
+    Fits texts calls w history actor call (reading_of read)
+
+-- bytes of a checkpoint are given at the event that takes the last block of them, which has this number, counted from 1
+abbrev pub IsLastOf : Call → Reply → ℕ → Type 0
+IsLastOf (Cread letter path at len) (Bytes bytes) count = count ≡ turns_of at (length bytes)
+IsLastOf _ _ count = ⊤

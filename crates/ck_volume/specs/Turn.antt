@@ -1,0 +1,31 @@
+-- Whether an event answered its call, and what it leaves where there is more to do of it.
+use Rattle.std.specs.Prelude.{◌≡◌, ⊤, ℕ, ◌+◌, IsTrue}
+use Rattle.ck_disk.specs.Disk.{Meaning}
+use Rattle.ck_disk.specs.Runs.{OnlyReads}
+use Rattle.ck_disk.specs.declared.disk.Disk.{Ghosts}
+use Rattle.ck_model.specs.declared.call.Call.{Call}
+use Rattle.ck_volume.specs.declared.event.Progress.{Progress}
+use Rattle.ck_volume.specs.declared.event.Turn.{Turn}
+use Rattle.ck_volume.specs.declared.event.Turn.TheVariants.{More, Answered}
+use Rattle.ck_volume.specs.declared.volume.Volume.{Volume}
+use Rattle.ck_volume.specs.Progress.{had_of, FitsHistory, IsBegunFor}
+use Rattle.ck_volume.specs.Volume.{disk_of, origin_of, table_of, mounts_of, history_of, told_of, world_of, KeepsLog}
+
+abbrev pub OnAnswered : Turn → Type 0 → Type 0
+OnAnswered More X = ⊤
+OnAnswered Answered X = X
+
+abbrev pub OnMore : Turn → Type 0 → Type 0
+OnMore More X = X
+OnMore Answered X = ⊤
+
+-- One block more of a checkpoint was read, and the read goes on to fit its call. The device was read, and nothing else changed.
+pub record GoesOn {D : Type 0} {g : Ghosts D} (means : D → Meaning) (before after : Volume D g) (actor : ℕ) (call : Call) (was progress : Progress) : Type 0 where
+  pub log : KeepsLog before after
+  pub world : IsTrue (means (disk_of before)).tells → world_of (means (disk_of after)).shows after ≡ world_of (means (disk_of before)).shows before
+  pub table : table_of after ≡ table_of before
+  pub mounts : mounts_of after ≡ mounts_of before
+  pub device : OnlyReads (means (disk_of before)) (means (disk_of after))
+  pub begun : IsBegunFor call progress
+  pub turns : had_of progress ≡ had_of was + 1
+  pub fits : FitsHistory (means (origin_of after)) (told_of after) (history_of after) actor call progress
