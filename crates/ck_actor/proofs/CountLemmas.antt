@@ -14,7 +14,8 @@ use Rattle.ck_model.specs.History.{CallsBy, Past, past_after, past_of}
 use Rattle.ck_model.specs.Streams.{Texts, image, changed}
 use Rattle.ck_model.specs.Walk.{file_at}
 use Rattle.ck_model.specs.World.{World}
-use Rattle.ck_actor.specs.Counts.{TurnCounts, FrozenMaps, AsFrozen, Takes, TakeTurns, block_turns, frozen_turns, told_turns}
+use Rattle.ck_read.specs.Progress.{turns_of}
+use Rattle.ck_actor.specs.Counts.{TurnCounts, FrozenMaps, AsFrozen, Takes, TakeTurns, frozen_turns, told_turns}
 
 -- the entry's call takes as many turns as it may, in any world
 abbrev pub TakesAnywhere : CallsBy → FrozenMaps → TurnCounts → Entry → Type 0
@@ -87,9 +88,9 @@ module _ (maps more : FrozenMaps) (goes_on : GoesOn maps more) where
   under_letter None f some = tt
   under_letter (Some id) f some = under id f f some (λ cells. grows-itself (f cells) (some cells))
 
-  read_some : (path : List (List ℕ)) (at len : ℕ) (cells : Cells) → HasTurn (option_and_then (λ node. Some (block_turns at (min len (size_at cells node - at)))) (result_ok (file_at cells path)))
+  read_some : (path : List (List ℕ)) (at len : ℕ) (cells : Cells) → HasTurn (option_and_then (λ node. Some (turns_of at (min len (size_at cells node - at)))) (result_ok (file_at cells path)))
   read_some path at len cells =
-      elim (result_ok (file_at cells path)) as (λ o. HasTurn (option_and_then (λ node. Some (block_turns at (min len (size_at cells node - at)))) o)) [ None ↦ tt | Some node ↦ omega arith ]
+      elim (result_ok (file_at cells path)) as (λ o. HasTurn (option_and_then (λ node. Some (turns_of at (min len (size_at cells node - at)))) o)) [ None ↦ tt | Some node ↦ omega arith ]
 
   changed_some : (first second : ℕ) (earlier later : Cells) → HasTurn (if nat_lt second first then None else Some (length (changed earlier later) + 1))
   changed_some first second earlier later =

@@ -1,5 +1,5 @@
 -- How many turns of its actor a call takes.
-use Rattle.std.specs.Prelude.{◌≡◌, ◌≤◌, ⊤, ℕ, ◌+◌, ◌-◌, Bool, false, List, [], ◌∷◌, length, min, max, Option, Some, None, MatchOption, IsSomeAnd, nat_lt, if◌then◌else◌}
+use Rattle.std.specs.Prelude.{◌≡◌, ◌≤◌, ⊤, ℕ, ◌+◌, ◌-◌, Bool, false, List, [], ◌∷◌, length, min, Option, Some, None, MatchOption, IsSomeAnd, nat_lt, if◌then◌else◌}
 use Rattle.std.specs.Option.{option_and_then}
 use Rattle.std.specs.Result.{result_ok}
 use Rattle.std.specs.FinMap as map
@@ -9,25 +9,21 @@ use Rattle.ck_model.specs.declared.entry.Entry.{Entry}
 use Rattle.ck_model.specs.declared.reply.Reply.{Reply}
 use Rattle.ck_model.specs.declared.reply.Reply.TheVariants.{Done, Bytes, Streamed}
 use Rattle.ck_model.specs.Cells.{Cells, size_at}
-use Rattle.ck_model.specs.Changes.{touched}
 use Rattle.ck_model.specs.History.{CallsBy, Past, past_after}
 use Rattle.ck_model.specs.Streams.{Texts, image, changed}
 use Rattle.ck_model.specs.Walk.{file_at}
 use Rattle.ck_model.specs.World.{World}
+use Rattle.ck_read.specs.Progress.{turns_of}
 use Rattle.ck_script.specs.Grammar.{◌>>=◌}
 
 -- how many turns each call takes, by its actor and its number
 abbrev pub TurnCounts : Type 0
 TurnCounts = ℕ → ℕ → ℕ
 
--- a turn for each block that so many bytes from this place touch, and at least one
-abbrev pub block_turns : ℕ → ℕ → ℕ
-block_turns at len = max 1 (length (touched at len))
-
 -- The turns that a reply tells: those of a read by its bytes, those of a stream by its records. A stream has one more, which
 -- finds no record left.
 abbrev pub told_turns : Call → Reply → Option ℕ
-told_turns (Cread letter path at len) (Bytes bytes) = Some (block_turns at (length bytes))
+told_turns (Cread letter path at len) (Bytes bytes) = Some (turns_of at (length bytes))
 told_turns (Full letter) (Streamed records bytes) = Some (records + 1)
 told_turns (Backup letter later_letter) (Streamed records bytes) = Some (records + 1)
 told_turns _ _ = None
@@ -46,7 +42,7 @@ abbrev pub frozen_turns : FrozenMaps → World → ℕ → Call → Option ℕ
 frozen_turns frozen w actor (Cread letter path at len) = do
   cells ← frozen_on frozen w actor letter
   node ← result_ok (file_at cells path)
-  Some (block_turns at (min len (size_at cells node - at)))
+  Some (turns_of at (min len (size_at cells node - at)))
 frozen_turns frozen w actor (Full letter) = do
   cells ← frozen_on frozen w actor letter
   Some (length (image cells) + 1)

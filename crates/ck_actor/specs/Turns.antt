@@ -9,6 +9,7 @@ use Rattle.ck_model.specs.History.{begun, call_at}
 use Rattle.ck_model.specs.Streams.{Texts}
 use Rattle.ck_model.specs.World.{World}
 use Rattle.ck_script.specs.declared.line.Line.{Line}
+use Rattle.ck_script.specs.declared.script.Script.{Script}
 use Rattle.ck_script.specs.Numbered.{calls_in}
 use Rattle.ck_script.specs.Parsed.{Parsed}
 use Rattle.ck_actor.specs.Counts.{TurnCounts, TakeTurns}
@@ -59,6 +60,10 @@ answered_by lines counts at (actor ∷ turns) =
     ++ answered_by lines counts (with_turn actor count at) turns)
     (call_at (calls_in lines) actor seq)
     (answered_by lines counts at turns)
+
+-- its calls and its turns
+abbrev pub parsed : Script → Parsed
+parsed script = record { calls = script.calls; turns = script.turns }
 
 -- each call takes as many turns as it may, and the turns of the script, so taken, answer the calls in the history's order
 pub record Follows (texts : Texts) (script : Parsed) (w : World) (history : List Entry) : Type 0 where

@@ -1,7 +1,9 @@
-//! Actors: whose call each turn of a script works on.
+//! Actors: whose call each turn of a script works on, and the play of a script by its turns.
 #![tactic(auto)]
 
 mod actor;
 mod place;
+mod play;
 
 pub use actor::{Actor, ActorTurn};
+pub use play::play;

@@ -1,0 +1,126 @@
+ghost use Rattle.std.specs.Prelude.{◌≡◌, ◌≤◌, [], None, OnOk, OnErr, IsTrue, length};
+ghost use Rattle.std.specs.List.{AllByRecursion};
+ghost use Rattle.ck_model.specs.History.{IsOfScript, call_at};
+ghost use Rattle.ck_model.specs.Placed.{NoneGone};
+ghost use Rattle.ck_model.specs.Streams.{Texts};
+ghost use Rattle.ck_model.specs.World.{World};
+ghost use Rattle.ck_script.specs.Numbered.{calls_in};
+ghost use Rattle.ck_files.specs.Built.{IsBuilt};
+ghost use Rattle.ck_engine.specs.Recovery.{Recovers};
+ghost use Rattle.ck_volume.specs.Told.{AreAnswered};
+ghost use Rattle.ck_volume.specs.TopCuts.{synced_count};
+ghost use Rattle.ck_volume.specs.Volume.{broken_of, committed_of, disk_of, history_of, origin_of, spoilt_of, table_of, told_of, IsBegun};
+ghost use Rattle.ck_actor.specs.Turns.{parsed, Follows};
+
+use crate::actor::Actor;
+use ck_disk::Disk;
+use ck_io::Clock;
+use ck_model::NoMemory;
+use ck_script::Script;
+use ck_volume::Volume;
+use std::alloc::Global;
+
+/// The actors with the numbers from 1 to 64, before all lines.
+fn actors(alloc: Global) -> Result<Vec<Actor>, NoMemory> {
+    let mut actors = Vec::with_capacity(alloc, 64)?;
+    for number in 1..65 {
+        actors.push(Actor::new(number))?;
+    }
+    Ok(actors)
+}
+
+/// Takes the turn of an actor, or of the background, whose number is 0.
+fn take<D: Disk, C: Clock>(
+    alloc: Global,
+    volume: &mut Volume<D>,
+    script: &Script,
+    clock: &mut C,
+    actors: &mut [Actor],
+    number: u32,
+) {
+    if number == 0 {
+        volume.background();
+    } else {
+        actors[number as usize - 1].turn(alloc, volume, clock, script);
+    }
+}
+
+/// Takes the turns that the script lists.
+fn take_turns<D: Disk, C: Clock>(
+    alloc: Global,
+    volume: &mut Volume<D>,
+    script: &Script,
+    clock: &mut C,
+    actors: &mut [Actor],
+) {
+    for turn in script.turns.items() {
+        take(alloc, volume, script, clock, actors, *turn);
+    }
+}
+
+/// Takes an actor's turns until the call of its line is answered.
+fn finish<D: Disk, C: Clock>(
+    alloc: Global,
+    volume: &mut Volume<D>,
+    script: &Script,
+    clock: &mut C,
+    actor: &mut Actor,
+    line: usize,
+) {
+    while actor.is_left(line) {
+        actor.turn(alloc, volume, clock, script);
+    }
+}
+
+/// Answers the calls that are left, in the order of their lines.
+fn finish_all<D: Disk, C: Clock>(
+    alloc: Global,
+    volume: &mut Volume<D>,
+    script: &Script,
+    clock: &mut C,
+    actors: &mut [Actor],
+) {
+    let lines = script.calls.items();
+    for at in 0..lines.len() {
+        let actor = &mut actors[lines[at].actor as usize - 1];
+        finish(alloc, volume, script, clock, actor, at);
+    }
+}
+
+/// Plays a script on a volume that was just opened: its turns, then the calls that are left, each to
+/// its end, and then what is left in the background. It takes memory for the entries of all its calls
+/// before the first one.
+pub fn play<D: Disk, C: Clock>(
+    alloc: Global,
+    volume: &mut Volume<D>,
+    script: &Script,
+    clock: &mut C,
+) -> Result<(), NoMemory>
+    requires begun { IsBegun (D.means (disk_of volume.old)) volume.old }
+    requires told { told_of volume.old ≡ [] }
+    requires unspoilt { spoilt_of volume.old ≡ None }
+    requires built { AllByRecursion (λ line. IsBuilt line.call) script.now.calls }
+    requires few { length script.now.calls ≤ 65536 }
+    ensures of_script { OnOk result (IsOfScript (calls_in script.now.calls) (history_of volume.new)) }
+    ensures moments { OnOk result (IsTrue (C.means clock.old).tells → AllByRecursion (λ entry. entry.at ≡ (C.means clock.old).moment) (history_of volume.new)) }
+    ensures unspoilt { OnOk result (spoilt_of volume.new ≡ None) }
+    ensures answered { OnOk result (AreAnswered (call_at (calls_in script.now.calls)) (told_of volume.new) (history_of volume.new)) }
+    ensures synced { OnOk result (synced_count (call_at (calls_in script.now.calls)) (history_of volume.new) ≤ committed_of volume.new) }
+    ensures origin { origin_of volume.new ≡ origin_of volume.old }
+    ensures refused { OnErr result (disk_of volume.new ≡ disk_of volume.old) }
+    ensures drained { OnOk result (broken_of volume.new ≡ None → NoneGone (table_of volume.new)) }
+    ensures none { OnErr result (history_of volume.new ≡ []) }
+    ensures clock { C.means clock.new ≡ C.means clock.old }
+
+    // Where the origin tells what it holds, the history follows the script's turns from the world that it recovers to,
+    // whatever the texts of streams are.
+    ensures follows { OnOk result (IsTrue (D.means (origin_of volume.old)).tells → (w : World) → Recovers (D.means (origin_of volume.old)).shows w
+        → (texts : Texts) → Follows texts (parsed script.now) w (history_of volume.new)) }
+{
+    volume.reserve(script.calls.items().len() as u32)?;
+    let mut actors = actors(alloc)?;
+    take_turns(alloc, volume, script, clock, &mut actors);
+    finish_all(alloc, volume, script, clock, &mut actors);
+    volume.drain();
+    Ok(())
+}
