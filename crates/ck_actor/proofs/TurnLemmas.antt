@@ -9,7 +9,7 @@ use Rattle.ck_model.specs.History.{call_at}
 use Rattle.ck_script.specs.declared.line.Line.{Line}
 use Rattle.ck_script.specs.Numbered.{calls_in}
 use Rattle.ck_actor.specs.Counts.{TurnCounts}
-use Rattle.ck_actor.specs.Turns.{Standing, at_first, turned, with_turn, answering_turn, is_left, answered_by}
+use Rattle.ck_actor.specs.Turns.{Standing, at_first, going_on, gone_on, turned, with_turn, answering_turn, is_left, answered_by}
 
 -- where all actors stand
 abbrev pub Standings : Type 0
@@ -139,14 +139,6 @@ module _ (lines : List Line) (counts : TurnCounts) (at : Standings) (actor : ℕ
   now-some call is last =
       ap (λ o. option_map_or (λ call. if nat_eq ((at actor).had + 1) (answering_turn call (counts actor (seq_at at actor))) then (actor, seq_at at actor) ∷ [] else []) o []) is
       ∙ ap (λ n. if nat_eq ((at actor).had + 1) n then (actor, seq_at at actor) ∷ [] else []) (last (counts actor (seq_at at actor)))
-
--- it has had one turn more
-abbrev pub going_on : Standing → Standing
-going_on standing = record { through = standing.through; had = standing.had + 1 }
-
--- its next call begins
-abbrev pub gone_on : Standing → Standing
-gone_on standing = record { through = standing.through + 1; had = 0 }
 
 turned-going : (count : ℕ) (standing : Standing) → standing.had + 1 < count → turned count standing ≡ going_on standing
 turned-going count standing less = let is : nat_lt (standing.had + 1) count ≡ true = grind (arith, nat_tests) in ap (λ b. if b then going_on standing else gone_on standing) is

@@ -1,4 +1,5 @@
 pub mod Counts
 pub mod Turns
+pub mod Turned
 pub mod Place
 pub mod Actor

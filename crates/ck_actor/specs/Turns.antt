@@ -22,12 +22,17 @@ pub record Standing : Type 0 where
 abbrev pub at_first : ℕ → Standing
 at_first actor = record { through = 0; had = 0 }
 
+-- its call has had one turn more
+abbrev pub going_on : Standing → Standing
+going_on standing = record { through = standing.through; had = standing.had + 1 }
+
+-- its call is through
+abbrev pub gone_on : Standing → Standing
+gone_on standing = record { through = standing.through + 1; had = 0 }
+
 -- behind one turn more of a call that takes so many
 abbrev pub turned : ℕ → Standing → Standing
-turned count standing =
-    if nat_lt (standing.had + 1) count
-    then record { through = standing.through; had = standing.had + 1 }
-    else record { through = standing.through + 1; had = 0 }
+turned count standing = if nat_lt (standing.had + 1) count then going_on standing else gone_on standing
 
 abbrev pub with_turn : ℕ → ℕ → (ℕ → Standing) → ℕ → Standing
 with_turn actor count at other = if nat_eq other actor then turned count (at other) else at other

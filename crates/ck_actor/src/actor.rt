@@ -1,14 +1,19 @@
-ghost use Rattle.std.specs.Prelude.{◌≡◌, ◌≤◌, ◌<◌, ◌+◌, ◌↔◌, ℕ, List, [], None, IsTrue, length, take};
+ghost use Rattle.std.specs.Prelude.{◌≡◌, ◌≤◌, ◌<◌, ◌+◌, ◌↔◌, List, [], None, IsTrue, length, nat_le};
 ghost use Rattle.std.specs.List.{AllByRecursion};
-ghost use Rattle.ck_model.specs.History.{call_at, numbers_of};
+ghost use Rattle.ck_disk.specs.Disk.{Meaning};
+ghost use Rattle.ck_io.specs.Clock.{ClockMeaning};
+ghost use Rattle.ck_model.specs.declared.call.Call.{Call};
+ghost use Rattle.ck_model.specs.History.{call_at};
 ghost use Rattle.ck_script.specs.declared.line.Line.{Line as Lines};
-ghost use Rattle.ck_script.specs.Numbered.{calls_in, numbers_in, IsNumbered};
+ghost use Rattle.ck_script.specs.Numbered.{calls_in, IsNumbered};
 ghost use Rattle.ck_files.specs.Built.{IsBuilt};
 ghost use Rattle.ck_volume.specs.Told.{AreAnswered};
 ghost use Rattle.ck_volume.specs.TopCuts.{synced_count};
 ghost use Rattle.ck_volume.specs.Volume.{committed_of, history_of, origin_of, room_of, spoilt_of, told_of};
-ghost use Rattle.ck_actor.specs.Actor.{begins as begun_next, calls_left, number_of, AddsAtMostOne, IsThrough, Stands};
+ghost use Rattle.ck_actor.specs.Actor.{begins as begun_next, calls_left, number_of, standing_of, HasMoment, IsThrough, OnRead, Stands};
 ghost use Rattle.ck_actor.specs.Place.{IsFound};
+ghost use Rattle.ck_actor.specs.Turned.{answered_by_now, IsTurn};
+ghost use Rattle.ck_actor.specs.Turns.{at_first};
 ghost use Rattle.ck_actor.specs.declared.actor.ActorTurn.TheVariants.{Through};
 
 use crate::place::Place;
@@ -39,7 +44,9 @@ impl Actor {
     /// No call of it was answered yet.
     pub fn new(number: u32) -> Actor
         ensures number { number_of result ≡ number }
-        ensures stands { (lines : List Lines) → Stands lines [] result }
+        ensures stands { (origin : Meaning) (told : List Call) (lines : List Lines) → Stands origin told lines [] result }
+        ensures moment { (clock : ClockMeaning) → HasMoment clock result }
+        ensures standing { (lines : List Lines) → standing_of lines result ≡ at_first number }
     {
         Actor {
             place: Place::new(number),
@@ -55,38 +62,50 @@ impl Actor {
     {
         match self.progress {
             Progress::Fresh => self.place.next_number(script.calls.items()),
+            Progress::Read(_) => None,
         }
     }
 
-    /// The moment of the next turn's call: the clock is read where the turn begins it.
-    fn moment<C: Clock>(&mut self, clock: &mut C) -> u64
-        ensures told { IsTrue (C.means clock.old).tells → result ≡ (C.means clock.old).moment }
+    /// Whether the call of this line, which is its own, isn't answered yet.
+    pub(crate) fn is_left(&self, line: usize) -> bool
+        ensures { result ≡ nat_le self.now.place.line line }
+    {
+        self.place.line <= line
+    }
+
+    /// Reads the clock where the turn begins a call.
+    fn note_moment<C: Clock>(&mut self, clock: &mut C)
+        requires moment { HasMoment (C.means clock.old) self.old }
+        ensures told { IsTrue (C.means clock.old).tells → self.new.began ≡ (C.means clock.old).moment }
+        ensures kept { OnRead self.old.progress (self.new.began ≡ self.old.began) }
         ensures place { self.new.place ≡ self.old.place }
+        ensures progress { self.new.progress ≡ self.old.progress }
         ensures clock { C.means clock.new ≡ C.means clock.old }
     {
         match self.progress {
             Progress::Fresh => self.began = clock.now(),
+            Progress::Read(_) => {}
         }
-        self.began
     }
 
-    /// Makes one event of the call at its line, which began at this moment.
-    fn event<D: Disk>(&mut self, alloc: Global, volume: &mut Volume<D>, at: u64, lines: &[Line])
+    /// Makes one event of the call at its line.
+    fn event<D: Disk>(&mut self, alloc: Global, volume: &mut Volume<D>, lines: &[Line])
         requires numbered { IsNumbered lines.now }
         requires found { IsFound lines.now self.old.place }
         requires left { self.old.place.line < length lines.now }
-        requires stands { Stands lines.now (history_of volume.old) self.old }
+        requires stands { Stands (D.means (origin_of volume.old)) (told_of volume.old) lines.now (history_of volume.old) self.old }
         requires room { 0 < room_of volume.old }
         requires unspoilt { spoilt_of volume.old ≡ None }
         requires built { AllByRecursion (λ line. IsBuilt line.call) lines.now }
         ensures found { IsFound lines.now self.new.place }
-        ensures stands { Stands lines.now (history_of volume.new) self.new }
+        ensures stands { Stands (D.means (origin_of volume.new)) (told_of volume.new) lines.now (history_of volume.new) self.new }
+        ensures began { self.new.began ≡ self.old.began }
         ensures number { number_of self.new ≡ number_of self.old }
-        ensures added { AddsAtMostOne (number_of self.old) (history_of volume.old) (history_of volume.new) }
+        ensures turn { IsTurn (D.means (origin_of volume.old)) lines.now (number_of self.old) (standing_of lines.now self.old) (standing_of lines.now self.new) (answered_by_now volume.old) (answered_by_now volume.new) }
         ensures room { room_of volume.new + length (history_of volume.new) ≡ room_of volume.old + length (history_of volume.old) }
         ensures answered { AreAnswered (call_at (calls_in lines.now)) (told_of volume.old) (history_of volume.old)
             → AreAnswered (call_at (calls_in lines.now)) (told_of volume.new) (history_of volume.new) }
-        ensures moments { AllByRecursion (λ entry. entry.at ≡ at) (history_of volume.old) → AllByRecursion (λ entry. entry.at ≡ at) (history_of volume.new) }
+        ensures moments { AllByRecursion (λ entry. entry.at ≡ self.old.began) (history_of volume.old) → AllByRecursion (λ entry. entry.at ≡ self.old.began) (history_of volume.new) }
         ensures synced { synced_count (call_at (calls_in lines.now)) (history_of volume.old) ≤ committed_of volume.old
             → synced_count (call_at (calls_in lines.now)) (history_of volume.new) ≤ committed_of volume.new }
         ensures unspoilt { spoilt_of volume.new ≡ None }
@@ -94,7 +113,14 @@ impl Actor {
     {
         let line = &lines[self.place.line];
         let progress = &mut self.progress;
-        match volume.event(alloc, line.actor, line.seq, at, &line.call, progress) {
+        match volume.event(
+            alloc,
+            line.actor,
+            line.seq,
+            self.began,
+            &line.call,
+            progress,
+        ) {
             Turn::More => {}
             Turn::Answered => self.place.step(lines),
         }
@@ -110,14 +136,16 @@ impl Actor {
     )
         requires numbered { IsNumbered lines.now }
         requires found { IsFound lines.now self.old.place }
-        requires stands { Stands lines.now (history_of volume.old) self.old }
+        requires stands { Stands (D.means (origin_of volume.old)) (told_of volume.old) lines.now (history_of volume.old) self.old }
+        requires moment { HasMoment (C.means clock.old) self.old }
         requires room { calls_left lines.now self.old ≤ room_of volume.old }
         requires unspoilt { spoilt_of volume.old ≡ None }
         requires built { AllByRecursion (λ line. IsBuilt line.call) lines.now }
         ensures found { IsFound lines.now self.new.place }
-        ensures stands { Stands lines.now (history_of volume.new) self.new }
+        ensures stands { Stands (D.means (origin_of volume.new)) (told_of volume.new) lines.now (history_of volume.new) self.new }
+        ensures moment { HasMoment (C.means clock.new) self.new }
         ensures number { number_of self.new ≡ number_of self.old }
-        ensures added { AddsAtMostOne (number_of self.old) (history_of volume.old) (history_of volume.new) }
+        ensures turn { IsTurn (D.means (origin_of volume.old)) lines.now (number_of self.old) (standing_of lines.now self.old) (standing_of lines.now self.new) (answered_by_now volume.old) (answered_by_now volume.new) }
         ensures room { room_of volume.new + length (history_of volume.new) ≡ room_of volume.old + length (history_of volume.old) }
         ensures answered { AreAnswered (call_at (calls_in lines.now)) (told_of volume.old) (history_of volume.old)
             → AreAnswered (call_at (calls_in lines.now)) (told_of volume.new) (history_of volume.new) }
@@ -130,8 +158,8 @@ impl Actor {
         ensures clock { C.means clock.new ≡ C.means clock.old }
     {
         if self.place.line < lines.len() {
-            let at = self.moment(clock);
-            self.event(alloc, volume, at, lines);
+            self.note_moment(clock);
+            self.event(alloc, volume, lines);
         }
     }
 
@@ -153,16 +181,18 @@ impl Actor {
         clock: &mut C,
         script: &Script,
     ) -> ActorTurn
-        requires stands { Stands script.now.calls (history_of volume.old) self.old }
+        requires stands { Stands (D.means (origin_of volume.old)) (told_of volume.old) script.now.calls (history_of volume.old) self.old }
+        requires moment { HasMoment (C.means clock.old) self.old }
         requires room { calls_left script.now.calls self.old ≤ room_of volume.old }
         requires unspoilt { spoilt_of volume.old ≡ None }
         requires built { AllByRecursion (λ line. IsBuilt line.call) script.now.calls }
         ensures through { (result ≡ Through) ↔ IsThrough script.now.calls (history_of volume.new) (number_of self.old) }
-        ensures stands { Stands script.now.calls (history_of volume.new) self.new }
+        ensures stands { Stands (D.means (origin_of volume.new)) (told_of volume.new) script.now.calls (history_of volume.new) self.new }
+        ensures moment { HasMoment (C.means clock.new) self.new }
         ensures number { number_of self.new ≡ number_of self.old }
 
-        // At most the one entry of its next call comes.
-        ensures added { AddsAtMostOne (number_of self.old) (history_of volume.old) (history_of volume.new) }
+        // Nothing where no call is left; else its next call has had one turn more, or is answered by the one entry that comes.
+        ensures turn { IsTurn (D.means (origin_of volume.old)) script.now.calls (number_of self.old) (standing_of script.now.calls self.old) (standing_of script.now.calls self.new) (answered_by_now volume.old) (answered_by_now volume.new) }
         ensures room { room_of volume.new + length (history_of volume.new) ≡ room_of volume.old + length (history_of volume.old) }
         ensures answered { AreAnswered (call_at (calls_in script.now.calls)) (told_of volume.old) (history_of volume.old)
             → AreAnswered (call_at (calls_in script.now.calls)) (told_of volume.new) (history_of volume.new) }
