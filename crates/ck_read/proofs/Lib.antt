@@ -2,5 +2,5 @@ pub mod MapLemmas
 pub mod PartLemmas
 pub mod ProgressLaws
 pub mod StandingLemmas
-pub mod MountedLaws
 pub mod ReplyLaws
+pub mod MountedLaws
