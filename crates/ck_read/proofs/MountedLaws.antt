@@ -29,11 +29,11 @@ use Rattle.ck_read.proofs.StandingLemmas.{shown, found}
 
 -- what keeps its files isn't gone
 pub live_of_data : (t : Table) (ckpt : ℕ) → is_live_data t ckpt ≡ true → is_live t ckpt ≡ true
-live_of_data t ckpt data =
+live_of_data t ckpt kept =
     elim (map.get t.filesets ckpt) as (λ o. option_map_or (λ (f : Fileset). not f.gone && keeps_files f.kind) o false ≡ true → option_map_or (λ (f : Fileset). not f.gone) o false ≡ true) [
       | None ↦ λ h. h
       | Some f ↦ and_left (not f.gone) (keeps_files f.kind)
-    ] data
+    ] kept
 
 -- where its checkpoint stands with its data, the read that fits what stands is the file's
 pub read_in_now : (w : World) (actor letter : ℕ) (path : List (List ℕ)) (at len : ℕ) (p : ReadProgress) → IsReadNow w actor letter path at len p → IsReadIn w actor letter path at len p
@@ -57,18 +57,18 @@ module _ (store : Store) (t : Table) (ckpt : ℕ) where
     cells : checkpoint.cells ≡ map_on store t ckpt
 
   of_fileset : (o : Option Fileset) → option_map_or (λ (f : Fileset). not f.gone && keeps_files f.kind) o false ≡ true → HasMap (option_and_then (shown store t ckpt) o)
-  of_fileset None data = absurd (false≢true data)
-  of_fileset (Some f) data =
-      let kind : f.kind ≡ Keeping = kind_is f.kind (and_right (not f.gone) (keeps_files f.kind) data) in
+  of_fileset None kept = absurd (false≢true kept)
+  of_fileset (Some f) kept =
+      let kind : f.kind ≡ Keeping = kind_is f.kind (and_right (not f.gone) (keeps_files f.kind) kept) in
       record {
         checkpoint = checkpoint_on store t ckpt f;
-        stands = ap (λ b. cond b None (Some (checkpoint_on store t ckpt f))) (not_true f.gone (and_left (not f.gone) (keeps_files f.kind) data));
+        stands = ap (λ b. cond b None (Some (checkpoint_on store t ckpt f))) (not_true f.gone (and_left (not f.gone) (keeps_files f.kind) kept));
         keeps = kind;
         cells = ap (λ k. shown_by k (map_on store t ckpt)) kind;
       }
 
   has_map : is_live_data t ckpt ≡ true → HasMap (find (has_id ckpt) (checkpoints_on store t))
-  has_map data = subst HasMap (sym (found store t ckpt)) (of_fileset (map.get t.filesets ckpt) data)
+  has_map kept = subst HasMap (sym (found store t ckpt)) (of_fileset (map.get t.filesets ckpt) kept)
 
 module _ (store : Store) (mounts : Mounts) (t : Table) (actor letter : ℕ) (path : List (List ℕ)) (at len : ℕ) where
   abbrev here : World
@@ -76,8 +76,8 @@ module _ (store : Store) (mounts : Mounts) (t : Table) (actor letter : ℕ) (pat
 
   -- what is read of the checkpoint's map is read in the world
   read_now : (p : ReadProgress) → is_live_data t p.ckpt ≡ true → map.get mounts (actor, letter) ≡ Some p.ckpt → IsReadOf (map_on store t p.ckpt) path at len p → IsReadNow here actor letter path at len p
-  read_now p data mounted reads =
-      let there = has_map store t p.ckpt data in
+  read_now p kept mounted reads =
+      let there = has_map store t p.ckpt kept in
       record {
         mounted = mounted;
         checkpoint = there.checkpoint;
@@ -119,19 +119,19 @@ module _ (store : Store) (mounts : Mounts) (t : Table) (actor letter : ℕ) (pat
     pub replied_without_data : is_live t p.ckpt ≡ true → is_live_data t p.ckpt ≡ false → answer ≡ Err (reply.NoData p.ckpt)
     replied_without_data live without = cread_without_data store mounts t actor letter p.ckpt is.mounted path at len live without
 
-    module _ (q : ReadProgress) (data : is_live_data t p.ckpt ≡ true) (others : q ≡ record p { bytes = q.bytes }) (fits : ReadFits cells p → ReadFits cells q) where
+    module _ (q : ReadProgress) (kept : is_live_data t p.ckpt ≡ true) (others : q ≡ record p { bytes = q.bytes }) (fits : ReadFits cells p → ReadFits cells q) where
       reads : IsReadOf cells path at len q
       reads =
-          let there = has_map store t p.ckpt data in
+          let there = has_map store t p.ckpt kept in
           let was : IsReadOf cells path at len p = subst (λ cells. IsReadOf cells path at len p) there.cells (is.reads there.checkpoint there.stands there.keeps) in
           read_on cells path at len p q others (fits was.fits) was
 
       -- its bytes are the reply's where it is through
       pub replied_bytes : is_through q ≡ true → answer ≡ Ok (reply.Bytes q.bytes)
-      replied_bytes through = cread_read store mounts t actor letter p.ckpt is.mounted path at len q (live_of_data t p.ckpt data) data reads through
+      replied_bytes through = cread_read store mounts t actor letter p.ckpt is.mounted path at len q (live_of_data t p.ckpt kept) kept reads through
 
       -- and it fits the world else
       pub later_now : IsReadNow here actor letter path at len q
       later_now =
           let ckpt : q.ckpt ≡ p.ckpt = ap (λ (r : ReadProgress). r.ckpt) others in
-          read_now q (ap (is_live_data t) ckpt ∙ data) (is.mounted ∙ ap Some (sym ckpt)) (subst (λ id. IsReadOf (map_on store t id) path at len q) (sym ckpt) reads)
+          read_now q (ap (is_live_data t) ckpt ∙ kept) (is.mounted ∙ ap Some (sym ckpt)) (subst (λ id. IsReadOf (map_on store t id) path at len q) (sym ckpt) reads)

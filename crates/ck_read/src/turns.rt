@@ -44,6 +44,7 @@ pub fn turn<M: Meta, D: Disk>(
     ensures gone { (result ≡ Gone) ↔ (is_live (M.table meta.now) progress.old.ckpt ≡ false) }
     ensures no_data { (result ≡ NoData) ↔ ((is_live (M.table meta.now) progress.old.ckpt ≡ true)
         × (is_live_data (M.table meta.now) progress.old.ckpt ≡ false)) }
+    ensures stands { has_read result ≡ true → is_live_data (M.table meta.now) progress.old.ckpt ≡ true }
     ensures fault { result ≡ ReadFault → Rose (D.means disk.old).read_faults (D.means disk.new).read_faults }
     ensures unchanged { has_read result ≡ false → progress.new ≡ progress.old }
     // It is finished where the range's end is reached, after what this turn took.
