@@ -7,6 +7,8 @@ use Rattle.ck_model.specs.Cells.{Cells, size_at}
 use Rattle.ck_model.specs.Changes.{touched}
 use Rattle.ck_model.specs.Contents.{file_byte, file_range}
 use Rattle.ck_read.specs.declared.progress.ReadProgress.{ReadProgress}
+use Rattle.ck_read.specs.declared.turns.ReadTurn.TheVariants.{More, Finished}
+use Rattle.ck_read.specs.ReadTurn.{turn_at}
 use Rattle.ck_read.specs.Progress.{is_through, next_part, next_place, part_len, left_len, turns_left, turns_of, all_turns, turns_had, IsUnderWay, ReadFits}
 
 -- ---- a turn took a part of the range
@@ -129,6 +131,10 @@ all_had p q others way through last =
     let to : q.to ≡ p.to = ap (λ (r : ReadProgress). r.to) others in
     let bytes : length q.bytes ≡ p.to - p.from = omega (arith, way.within, end, from, to) in
     omega (arith, left_of_all p, last, ap (turns_of p.from) bytes)
+
+-- a turn that finishes is one at the end
+pub finished_through : (q : ReadProgress) → Finished ≡ turn_at q → is_through q ≡ true
+finished_through q is = elim (is_through q) as (λ b. Finished ≡ cond b Finished More → b ≡ true) [ true ↦ λ _. refl | false ↦ λ h. cc ] is
 
 -- ---- from the first turn to the last
 
