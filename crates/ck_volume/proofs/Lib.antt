@@ -5,6 +5,7 @@ pub mod CausesLemmas
 pub mod ToldLaws
 pub mod FitsLaws
 pub mod CallsLemmas
+pub mod TurnLemmas
 pub mod StandsLaws
 pub mod StoodLaws
 pub mod CutsLaws
