@@ -6,6 +6,7 @@ use Rattle.ck_model.specs.ReadCalls.{range_read}
 use Rattle.ck_model.specs.Refusals.{and_then}
 use Rattle.ck_model.specs.Step.{answered}
 use Rattle.ck_model.specs.TableWorld.{world_on}
+use Rattle.ck_model.specs.Values.{no_store}
 use Rattle.ck_model.specs.World.{World}
 use Rattle.ck_read.specs.Block.{map_on}
 use Rattle.ck_read.specs.StartFault.{file_read}
@@ -21,6 +22,9 @@ returns-in-Ok-clause-fits g c = λ store.
     let t = table_of self in
     let cells = map_on store t c.in-Some.ckpt in
     begun_now store (mounts_of self) t c.args.actor c.args.letter c.args.path.now c.args.at c.args.len c.in-Some.ckpt c.in-Ok.read
-    c.in-Some.ensures c.in-Ok.ensures.ckpt
+    (sym c.in-Some.ensures) c.in-Ok.ensures.ckpt
     (ap (file_read t cells c.in-Some.ckpt) (sym (c.walk.ensures cells (stands_on store t c.in-Some.ckpt))) ∙ c.in-Ok.ensures.node store)
     c.in-Ok.ensures.from (c.in-Ok.ensures.to store) (c.in-Ok.ensures.fits store)
+
+pub returns-in-Ok-clause-under_way : goal.returns-in-Ok-clause-under_way
+returns-in-Ok-clause-under_way g c = (c.in-Ok.ensures.fits no_store).under_way
