@@ -1,4 +1,4 @@
-use Rattle.std.proofs.Common.{◌≡◌, ℕ, sym, ap, subst, refl, ◌∙◌}
+use Rattle.std.proofs.Common.{ℕ, sym, ap, subst, refl, ◌∙◌}
 use Rattle.ck_model.specs.declared.reply.Reply.TheVariants as reply
 use Rattle.ck_model.specs.Step.{answered}
 use Rattle.ck_files.specs.Room.{answered_with}
