@@ -1,4 +1,4 @@
-ghost use Rattle.std.specs.Prelude.{◌≡◌, ◌≤◌, ◌+◌, ◌×◌, ℕ, List, None, false, length, IfErr, IfSome, IsTrue};
+ghost use Rattle.std.specs.Prelude.{◌≡◌, ◌≤◌, ◌+◌, ℕ, List, None, false, length, IfErr, IfSome, IsTrue};
 ghost use Rattle.ck_disk.specs.Runs.{OnlyReads};
 ghost use Rattle.ck_model.specs.History.{is_fault};
 ghost use Rattle.ck_model.specs.Limits.{file_limit};
@@ -99,7 +99,7 @@ impl<D: Disk> Engine<D> {
         let found = walk(&self.slots, ckpt, path);
         match start(alloc, &self.slots, ckpt, found, at, len) {
             Ok(read) => Ok(Ok(read)),
-            Err(StartFault::NoMemory) => Err(Fault::NoMemory),
+            Err(why) if why == StartFault::NoMemory => Err(Fault::NoMemory),
             Err(why) => Ok(Err(why.reply(ckpt))),
         }
     }

@@ -4,8 +4,7 @@ use Rattle.ck_model.specs.Refusals.{and_then}
 use Rattle.ck_model.specs.Contents.{file_range}
 use Rattle.ck_model.specs.Step.{answered}
 use Rattle.ck_model.specs.Walk.{file_at}
-use Rattle.ck_model.specs.Values.{cells_on}
-use Rattle.ck_model.specs.TableWorld.{values_of, world_on}
+use Rattle.ck_model.specs.TableWorld.{world_on}
 use Rattle.ck_data.specs.Device.{store_on}
 use Rattle.ck_files.specs.Room.{answered_with}
 use Rattle.ck_tree.proofs.MapLaws.{stands_on as stands}

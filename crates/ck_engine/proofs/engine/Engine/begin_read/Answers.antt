@@ -1,14 +1,11 @@
-use Rattle.std.proofs.Common.{◌≡◌, ℕ, Ok, Err, Some, None, sym, ap, ◌∙◌}
-use Rattle.std.specs.Option.{ok_or}
-use Rattle.ck_model.specs.declared.reply.Reply.TheVariants.{NotMounted}
-use Rattle.ck_model.specs.CheckpointCalls.{standing, with_data}
-use Rattle.ck_model.specs.ReadCalls.{range_read}
-use Rattle.ck_model.specs.Refusals.{and_then}
+use Rattle.std.proofs.Common.{rules, ◌≢◌, sym, ap, ◌∙◌}
 use Rattle.ck_model.specs.Step.{answered}
 use Rattle.ck_model.specs.TableWorld.{world_on}
-use Rattle.ck_model.specs.World.{World}
+use Rattle.ck_model.specs.Values.{no_store}
+use Rattle.ck_files.specs.Room.{answered_with}
+use Rattle.ck_read.specs.declared.fault.StartFault.TheVariants.{NoMemory}
 use Rattle.ck_read.specs.Block.{map_on}
-use Rattle.ck_read.specs.StartFault.{file_read}
+use Rattle.ck_read.specs.StartFault.{file_read, reply_of}
 use Rattle.ck_read.proofs.MountedLaws.{begun_now}
 use Rattle.ck_read.proofs.ReplyLaws.{cread_refused}
 use Rattle.ck_tree.proofs.MapLaws.{stands_on}
@@ -21,6 +18,21 @@ returns-in-Ok-clause-fits g c = λ store.
     let t = table_of self in
     let cells = map_on store t c.in-Some.ckpt in
     begun_now store (mounts_of self) t c.args.actor c.args.letter c.args.path.now c.args.at c.args.len c.in-Some.ckpt c.in-Ok.read
-    c.in-Some.ensures c.in-Ok.ensures.ckpt
-    (ap (file_read t cells c.in-Some.ckpt) (sym (c.walk.ensures cells (stands_on store t c.in-Some.ckpt))) ∙ c.in-Ok.ensures.node store)
+    (sym c.in-Some.ensures) c.in-Ok.ensures.ckpt
+    (ap (file_read t cells c.in-Some.ckpt) (sym (c.walk-found.ensures cells (stands_on store t c.in-Some.ckpt))) ∙ c.in-Ok.ensures.node store)
     c.in-Ok.ensures.from (c.in-Ok.ensures.to store) (c.in-Ok.ensures.fits store)
+
+pub returns-in-Ok-clause-under_way : goal.returns-in-Ok-clause-under_way
+returns-in-Ok-clause-under_way g c = (c.in-Ok.ensures.fits no_store).under_way
+
+pub returns-in-Err-2-clause-refused : goal.returns-in-Err-2-clause-refused
+returns-in-Err-2-clause-refused g c = λ store.
+    let self = c.args.self.now in
+    let t = table_of self in
+    let w = world_on store (mounts_of self) t in
+    let cells = map_on store t c.in-Some.ckpt in
+    let other : c.in-Err-2.why ≢ NoMemory = search rules in
+    ap (answered w) (cread_refused store (mounts_of self) t c.args.actor c.args.letter c.in-Some.ckpt (sym c.in-Some.ensures) c.args.path.now c.args.at c.args.len c.in-Err-2.why
+    (ap (file_read t cells c.in-Some.ckpt) (sym (c.walk-found.ensures cells (stands_on store t c.in-Some.ckpt))) ∙ c.in-Err-2.ensures.refused other store))
+    ∙ ap (λ why. answered_with (reply_of c.in-Some.ckpt why) w) (sym c.in-Err-2.why-is)
+    ∙ ap (λ r. answered_with r w) (sym c.reply.ensures)
