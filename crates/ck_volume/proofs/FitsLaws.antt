@@ -24,7 +24,7 @@ use Rattle.ck_log.specs.Layout.{base_of}
 use Rattle.ck_data.specs.Device.{store_on}
 use Rattle.ck_read.specs.declared.progress.ReadProgress.{ReadProgress}
 use Rattle.ck_read.specs.Mounted.{IsReadIn, IsReadNow}
-use Rattle.ck_read.specs.Progress.{IsOnWay, IsReadOf}
+use Rattle.ck_read.specs.Progress.{all_turns, left_len, next_place, turns_had, turns_left, turns_of, IsOnWay, IsReadOf}
 use Rattle.ck_engine.specs.Recovery.{Recovers}
 use Rattle.ck_engine.proofs.RecoveryLaws.{recovered_table}
 use Rattle.ck_volume.specs.declared.event.Progress.{Progress}
@@ -154,3 +154,22 @@ fits_others origin told other history entry actor call progress.Fresh apart fits
 fits_others origin told other history entry actor call (progress.Read read) apart fits = λ is_told w found texts calls answered.
     fits_last_lem texts calls w history (entry ∷ []) actor call (reading_of read) (none_of entry actor apart)
     (fits is_told w found texts calls (answered-before calls told other history entry answered).0)
+
+-- ---- its turns
+
+-- as many as the bytes that the file has of the range take
+pub turns_on_way : (cells : Cells) (path : List (List ℕ)) (at len : ℕ) (read : ReadProgress) → IsReadingOf cells path at len (reading_of read) → all_turns read ≡ turns_of at (min len (size_at cells read.node - at))
+turns_on_way cells path at len read r =
+    let size = size_at cells read.node in
+    let range : read.to - read.from ≡ min len (size - at) = omega (arith, r.to_is, r.from_is) in
+    ap (λ n. turns_of read.from n) range ∙ ap (λ n. turns_of n (min len (size - at))) r.from_is
+
+-- one at least is left
+one_left : (all left : ℕ) → 1 ≤ all → 1 ≤ left → all - left + 1 ≤ all
+one_left all left some more = omega (arith, some, more)
+
+one_turn : (place count : ℕ) → 1 ≤ turns_of place count
+one_turn place count = omega arith
+
+pub had_below : (read : ReadProgress) → turns_had read + 1 ≤ all_turns read
+had_below read = one_left (all_turns read) (turns_left read) (one_turn read.from (read.to - read.from)) (one_turn (next_place read) (left_len read))
