@@ -9,6 +9,20 @@ use Rattle.ck_model.specs.declared.entry.Entry.{Entry}
 use Rattle.ck_model.specs.History.{numbers_of}
 use Rattle.ck_script.specs.declared.line.Line.{Line}
 use Rattle.ck_script.specs.Numbered.{numbers_in}
+use Rattle.std.specs.Prelude.{min}
+use Rattle.ck_model.specs.declared.call.Call.{Call}
+use Rattle.ck_model.specs.declared.call.Call.TheVariants.{Cread}
+use Rattle.ck_model.specs.Cells.{size_at}
+use Rattle.ck_model.specs.History.{CallsBy, state}
+use Rattle.ck_model.specs.Streams.{Texts}
+use Rattle.ck_model.specs.World.{World}
+use Rattle.ck_laws.specs.Laws.{frozen}
+use Rattle.ck_laws.specs.Fits.{FitsCall}
+use Rattle.ck_read.specs.declared.progress.ReadProgress.{ReadProgress}
+use Rattle.ck_read.specs.Progress.{all_turns, turns_had, turns_of}
+use Rattle.ck_volume.specs.Progress.{reading_of}
+use Rattle.ck_volume.proofs.FitsLaws.{had_below, turns_on_way}
+use Rattle.ck_actor.specs.Counts.{AsFrozen, frozen_on, frozen_turns}
 use Rattle.ck_actor.proofs.PlaceLemmas.{own_at, own_line, left_at}
 
 numbers_of-more : (history : List Entry) (entry : Entry) (actor : ℕ) → entry.actor ≡ actor → numbers_of (history ++ entry ∷ []) actor ≡ numbers_of history actor ++ entry.seq ∷ []
@@ -52,3 +66,20 @@ each_at P (y ∷ xs) (suc at) x all within is = each_at P xs at x all.1 (omega (
 
 pub longer : (history : List Entry) (entry : Entry) → length (history ++ entry ∷ []) ≡ length history + 1
 longer history entry = simp length-append (omega arith)
+
+-- ---- the turns of a read that is on its way (not checked yet)
+
+-- the map under its letter is the one that it reads, so the frozen maps tell as many turns as its range has
+frozen_on_way : (texts : Texts) (calls : CallsBy) (w : World) (history : List Entry) (actor letter : ℕ) (path : List (List ℕ)) (at len : ℕ) (read : ReadProgress)
+    → FitsCall texts calls w history actor letter path at len (reading_of read)
+    → frozen_turns (frozen texts calls w history) (state texts calls w history) actor (Cread letter path at len) ≡ Some (all_turns read)
+frozen_on_way texts calls w history actor letter path at len read fits =
+    let turns = turns_on_way fits.cells path at len read fits.read in
+    simp (fits.mounted, fits.cells_are, fits.read.file, turns)
+
+-- and with the present one it has had no more of them
+pub as_frozen_on_way : (texts : Texts) (calls : CallsBy) (w : World) (history : List Entry) (actor letter : ℕ) (path : List (List ℕ)) (at len : ℕ) (read : ReadProgress)
+    → FitsCall texts calls w history actor letter path at len (reading_of read)
+    → AsFrozen (frozen_turns (frozen texts calls w history) (state texts calls w history) actor (Cread letter path at len)) (turns_had read + 1)
+as_frozen_on_way texts calls w history actor letter path at len read fits =
+    subst (λ turns. AsFrozen turns (turns_had read + 1)) (sym (frozen_on_way texts calls w history actor letter path at len read fits)) (had_below read)
