@@ -23,7 +23,7 @@ event-requires-clause-number g c =
     let own = own_at lines at line actor c.requires.left c.index-lines-self.is c.requires.found.own in
     let same : line.actor ≡ actor = grind (arith, nat_tests, own) in
     own_number lines at line actor c.requires.numbered c.requires.left c.index-lines-self.is own
-    ∙ ap (λ (numbers : List ℕ). length numbers + 1) (sym c.requires.stands)
+    ∙ ap (λ (numbers : List ℕ). length numbers + 1) (sym c.requires.stands.numbers)
     ∙ ap (λ n. length (numbers_of history n) + 1) (sym same)
 
 pub returns-in-Answered-clause-stands : goal.returns-in-Answered-clause-stands

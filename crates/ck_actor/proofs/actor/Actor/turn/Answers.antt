@@ -25,7 +25,7 @@ returns-clause-through g c =
     let place = c.act.new.self.place in
     let number = c.args.self.now.place.actor in
     let same : place.actor ≡ number = c.act.ensures.number ∙ c.seek.ensures.actor in
-    let stands : numbers_of history place.actor ≡ numbers_in (take place.line items) place.actor = c.act.ensures.stands in (
+    let stands : numbers_of history place.actor ≡ numbers_in (take place.line items) place.actor = c.act.ensures.stands.numbers in (
       λ through.
           subst (λ (lines : List Line). numbers_of history number ≡ numbers_in lines number) c.items-lines.ensures
           (subst (λ n. numbers_of history n ≡ numbers_in items n) same (stands ∙ all_before items place.line place.actor (c.turned.ensures.0 through))),
