@@ -2,6 +2,7 @@ pub mod SafeLemmas
 pub mod CommittedLemmas
 pub mod GoesOnLemmas
 pub mod AttemptLemmas
+pub mod ReadLemmas
 pub mod OpenLemmas
 pub mod KeptLaws
 pub mod FormatLemmas
