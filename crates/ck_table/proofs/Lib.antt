@@ -4,3 +4,6 @@ pub mod WithoutLaws
 pub mod Sound
 pub mod AddLemmas
 pub mod LeaveLaws
+pub mod FlagLaws
+pub mod ShownLaws
+pub mod WorldLaws

@@ -1,0 +1,220 @@
+-- The worlds of a table in which a checkpoint keeps no data from now on, may be given up or not, or leaves.
+use Rattle.std.proofs.Common.{◌≡◌, ℕ, ◌<◌, Bool, true, false, cond, not, ◌&&◌, ◌||◌, T, List, [], ◌∷◌, length, map as list_map, filter, find, take_while, Option, Some, None, Result, Ok, Err, IsSome, is_some, if◌then◌else◌, nat_eq, nat_lt, nat_le, refl, sym, ap, subst, ◌∙◌, arith}
+use Rattle.std.specs.declared.cmp.Ordering.TheVariants.{Less, Equal, Greater}
+use Rattle.std.specs.Ordering.{nat_cmp, is_lt, is_eq, eq_by_cmp}
+use Rattle.std.specs.Cmp.Lexicographic.{pointwise, bytes_decides}
+use Rattle.std.specs.List.{list_any}
+use Rattle.std.specs.Option.{ok_or, option_map, option_map_or, option_and_then}
+use Rattle.std.specs.FinMap.{find as found, put, is_sorted, entries_sorted, nat_cmp-IsAntisymmetric}
+use Rattle.std.specs.FinMap.Entries.{by_order, below_all, length-put}
+use Rattle.std.specs.FinMap as map
+use Rattle.std.proofs.lemmas.Bool.{false≢true, false_from_ne_true, and_parts}
+use Rattle.std.proofs.lemmas.Bool.Decides.{nat_tests}
+use Rattle.std.proofs.lemmas.Cmp.{nat_cmp_total}
+use Rattle.ck_model.specs.declared.key.Key.{Key}
+use Rattle.ck_model.specs.declared.checkpoint.Fileset.{Fileset}
+use Rattle.ck_model.specs.declared.checkpoint.Kind.{Kind}
+use Rattle.ck_model.specs.declared.checkpoint.Kind.TheVariants.{Keeping, Nodata}
+use Rattle.ck_model.specs.declared.reply.Reply.TheVariants.{Done, Delayed, NoCkpt}
+use Rattle.ck_model.specs.Cells.{marked}
+use Rattle.ck_model.specs.CheckpointCalls.{any_keeps, as_nodata, checkpoint_named, dropped, older_than, with_changed, with_flag}
+use Rattle.ck_model.specs.Step.{converted, told}
+use Rattle.ck_model.specs.World.{World, Checkpoint, Mounts, has_id, is_named, keeps_files, shown_by, without_checkpoint}
+use Rattle.ck_model.specs.Table.{Table, IsTable, column, newer, with_fileset}
+use Rattle.ck_model.specs.Chain.{is_live, is_live_data, keeps_data, present, value_at, value_of}
+use Rattle.ck_model.specs.Placed.{ArePlaced}
+use Rattle.ck_model.specs.Rules.{IsOrderly, IsSound}
+use Rattle.ck_model.specs.Values.{Store, cells_on}
+use Rattle.ck_model.specs.TableWorld.{checkpoint_on, checkpoints_on, keys_of, valued, values_of, world_on}
+use Rattle.ck_model.proofs.CaseLaws.{head_of, some_same}
+use Rattle.ck_model.proofs.CellLaws.{marked_again}
+use Rattle.ck_model.proofs.CountLaws.{all_placed}
+use Rattle.ck_table.specs.Flags as flags
+use Rattle.ck_table.specs.Flags.{as_removable, with_nodata, with_record, with_removable}
+use Rattle.ck_table.specs.Gone.{as_gone, with_gone}
+use Rattle.ck_table.specs.Names as names
+use Rattle.ck_table.proofs.IdLaws.{get-recorded}
+use Rattle.ck_table.proofs.FlagLaws.{StaysOne, newer-with_nodata, stays_nodata, stays_removable, value-with_nodata, value-with_removable}
+use Rattle.ck_table.proofs.LeaveLaws.{stands_live, value-with_gone}
+
+-- ---- a record that is put over one that stands
+
+-- the entry with this value, where it has the id
+abbrev pub set_at : ℕ → Fileset → ℕ × Fileset → ℕ × Fileset
+set_at id v e = (e.0, cond (nat_eq e.0 id) v e.1)
+
+above_head : (x y : ℕ) (b : Bool) → T (is_lt (nat_cmp x y) && b) → (x < y) × T b
+above_head x y b h = grind (arith, nat_tests)
+
+pair_is : (e : ℕ × Fileset) → (e.0, e.1) ≡ e
+pair_is e = refl
+
+-- entries behind the id stay
+set_behind : (id : ℕ) (v : Fileset) (es : List (ℕ × Fileset)) → T (below_all nat_cmp id es) → list_map (set_at id v) es ≡ es
+set_behind id v [] below = refl
+set_behind id v (e ∷ es) below =
+    let head = above_head id e.0 (below_all nat_cmp id es) below in
+    let less = head.0 in
+    let apart : nat_eq e.0 id ≡ false = grind (arith, nat_tests) in
+    λ i. (e.0, cond (apart i) v e.1) ∷ set_behind id v es head.1 i
+
+put_over : (id : ℕ) (v : Fileset) (es : List (ℕ × Fileset)) → T (is_sorted nat_cmp es) → IsSome (found nat_cmp id es) → put nat_cmp id v es ≡ list_map (set_at id v) es
+put_over id v [] s there = absurd (false≢true there)
+put_over id v (e ∷ es) s there =
+    let parts = head_of (below_all nat_cmp e.0 es) (is_sorted nat_cmp es) s in
+    let long = length-put nat_cmp nat_cmp_total id v (e ∷ es) s ∙ ap (λ b. cond b (length (e ∷ es)) (length (e ∷ es) + 1)) there in
+    elim (nat_cmp id e.0) as (λ o. nat_cmp id e.0 ≡ o → length (by_order o ((id, v) ∷ e ∷ es) ((e.0, v) ∷ es) (e ∷ put nat_cmp id v es)) ≡ length (e ∷ es)
+    → by_order o ((id, v) ∷ e ∷ es) ((e.0, v) ∷ es) (e ∷ put nat_cmp id v es) ≡ list_map (set_at id v) (e ∷ es)) [
+      | Less ↦ λ _ longer. absurd (omega (arith, longer))
+      | Equal ↦ λ order _.
+          let tied : nat_eq e.0 id ≡ true = grind (arith, nat_tests) in
+          let is : e.0 ≡ id = grind (arith, nat_tests) in
+          (λ i. (e.0, cond (sym tied i) v e.1) ∷ sym (set_behind id v es (subst (λ x. T (below_all nat_cmp x es)) is parts.0)) i)
+      | Greater ↦ λ order _.
+          let apart : nat_eq e.0 id ≡ false = grind (arith, nat_tests) in
+          let rest : IsSome (found nat_cmp id es) = subst (λ o. IsSome (cond (is_eq o) (Some e.1) (found nat_cmp id es))) order there in
+          (λ i. (e.0, cond (sym apart i) v e.1) ∷ put_over id v es parts.1 rest i)
+    ] refl long
+
+entries_over : (t : Table) (id : ℕ) (v : Fileset) → IsSome (map.get t.filesets id) → map.entries (map.insert t.filesets id v) ≡ list_map (set_at id v) (map.entries t.filesets)
+entries_over t id v stands = map.entries-insert nat_cmp_total t.filesets id v ∙ put_over id v (map.entries t.filesets) (entries_sorted t.filesets) (subst IsSome (map.get-entries t.filesets id) stands)
+
+-- ---- the same entries, with the same values
+
+same_value_at : (t u : Table) → u.entries ≡ t.entries → ((fs : ℕ) (key : Key) → value_of u fs key ≡ value_of t fs key) → (fs : ℕ) (key : Key) → value_at u fs key ≡ value_at t fs key
+same_value_at t u entries same fs key = λ i. cond (nat_eq fs 0) (present (map.get (entries i) (0, key))) (same fs key i)
+
+-- each fileset of the table with this record has the values that it had
+values_over : (t : Table) (id : ℕ) (v : Fileset) → ((fs : ℕ) (key : Key) → value_of (with_fileset t id (Some v)) fs key ≡ value_of t fs key) → (fs : ℕ) → values_of (with_fileset t id (Some v)) fs ≡ values_of t fs
+values_over t id v same fs = λ i. map.from_entries (valued (λ key. same_value_at t (with_fileset t id (Some v)) refl same fs key i) (keys_of t))
+
+-- ---- by the name of one that stands
+
+-- what the world calls it
+named_one : (t : Table) (name : List ℕ) (id : ℕ) → names.is_named t name id ≡ true → (f : Fileset) → map.get t.filesets id ≡ Some f → (f.gone ≡ false) × (f.name ≡ name)
+named_one t name id named f is =
+    let both = and_parts (not f.gone) (pointwise nat_eq f.name name) (sym (ap (λ o. option_map_or (λ (f : Fileset). not f.gone && pointwise nat_eq f.name name) o false) is) ∙ named) in
+    (false_of f.gone both.0, (bytes_decides f.name name).0 both.1)
+  where
+    false_of : (b : Bool) → not b ≡ true → b ≡ false
+    false_of true h = absurd (false≢true h)
+    false_of false h = refl
+
+pub named_live : (t : Table) (name : List ℕ) (id : ℕ) → names.is_named t name id ≡ true → is_live t id ≡ true
+named_live t name id h = elim (map.get t.filesets id) as (λ o. option_map_or (λ (f : Fileset). not f.gone && pointwise nat_eq f.name name) o false ≡ true → option_map_or (λ (f : Fileset). not f.gone) o false ≡ true) [
+  | None ↦ λ none. none
+  | Some f ↦ λ both. (and_parts (not f.gone) (pointwise nat_eq f.name name) both).0
+] h
+
+module _ (t : Table) (sound : IsSound t) (name : List ℕ) (id : ℕ) (named : names.is_named t name id ≡ true) where
+  -- of those that stand it alone has the name
+  is_this : (f : Fileset) → map.get t.filesets id ≡ Some f → (e : ℕ × Fileset) → map.get t.filesets e.0 ≡ Some e.1 → e.1.gone ≡ false → pointwise nat_eq e.1.name name ≡ nat_eq e.0 id
+  is_this f is e there live =
+      let own = named_one t name id named f is in
+      elim (nat_eq e.0 id) as (λ b. nat_eq e.0 id ≡ b → pointwise nat_eq e.1.name name ≡ b) [
+        | true ↦ λ same.
+            let at : e.0 ≡ id = grind (arith, nat_tests) in
+            let one : e.1 ≡ f = some_same e.1 f (sym there ∙ ap (map.get t.filesets) at ∙ is) in
+            (bytes_decides e.1.name name).1 (ap (λ (x : Fileset). x.name) one ∙ own.1)
+        | false ↦ λ apart. false_from_ne_true (pointwise nat_eq e.1.name name) (λ same.
+            let at : e.0 ≡ id = sound.orderly.names e.0 id e.1 f there is live own.0 ((bytes_decides e.1.name name).0 same ∙ sym own.1) in
+            let tied : nat_eq e.0 id ≡ true = grind (arith, nat_tests) in
+            false≢true (sym apart ∙ tied))
+      ] refl
+
+-- ---- one changes
+
+-- what the model makes of the one with the name
+abbrev changed_by : List ℕ → (Checkpoint → Checkpoint) → Checkpoint → Checkpoint
+changed_by name model checkpoint = if is_named name checkpoint then model checkpoint else checkpoint
+
+module _ (store : Store) (t : Table) (sound : IsSound t) (name : List ℕ) (id : ℕ) (named : names.is_named t name id ≡ true)
+    (change : Fileset → Fileset) (model : Checkpoint → Checkpoint)
+    (shown : (x : ℕ) (f : Fileset) → checkpoint_on store t x (change f) ≡ model (checkpoint_on store t x f))
+    (f : Fileset) (is : map.get t.filesets id ≡ Some f) (stays : StaysOne f (change f))
+    (values : (fs : ℕ) (key : Key) → value_of (with_fileset t id (Some (change f))) fs key ≡ value_of t fs key) where
+  abbrev u : Table
+  u = with_fileset t id (Some (change f))
+
+  same_on : (x : ℕ) (v : Fileset) → checkpoint_on store u x v ≡ checkpoint_on store t x v
+  same_on x v = λ i. record { id = x; name = v.name; kind = v.kind; removable = v.removable; ctime = v.ctime; cells = shown_by v.kind (cells_on store (values_over t id (change f) values x i)) }
+
+  same_here : (e : ℕ × Fileset) → map.get t.filesets e.0 ≡ Some e.1 → nat_eq e.0 id ≡ true → e.1 ≡ f
+  same_here e there same =
+      let at : e.0 ≡ id = grind (arith, nat_tests) in
+      some_same e.1 f (sym there ∙ ap (map.get t.filesets) at ∙ is)
+
+  one_changed : (e : ℕ × Fileset) → map.get t.filesets e.0 ≡ Some e.1 → e.1.gone ≡ false
+      → checkpoint_on store u e.0 (set_at id (change f) e).1 ≡ changed_by name model (checkpoint_on store t e.0 e.1)
+  one_changed e there live =
+      elim (nat_eq e.0 id) as (λ b. nat_eq e.0 id ≡ b → checkpoint_on store u e.0 (cond b (change f) e.1) ≡ (if b then model (checkpoint_on store t e.0 e.1) else checkpoint_on store t e.0 e.1)) [
+        | true ↦ λ same. same_on e.0 (change f) ∙ shown e.0 f ∙ ap (λ v. model (checkpoint_on store t e.0 v)) (sym (same_here e there same))
+        | false ↦ λ _. same_on e.0 e.1
+      ] refl
+      ∙ ap (λ b. if b then model (checkpoint_on store t e.0 e.1) else checkpoint_on store t e.0 e.1) (sym (is_this t sound name id named f is e there live))
+
+  gone_same : (e : ℕ × Fileset) → map.get t.filesets e.0 ≡ Some e.1 → (set_at id (change f) e).1.gone ≡ e.1.gone
+  gone_same e there =
+      elim (nat_eq e.0 id) as (λ b. nat_eq e.0 id ≡ b → (cond b (change f) e.1).gone ≡ e.1.gone) [
+        | true ↦ λ same. stays.gone ∙ ap (λ (v : Fileset). v.gone) (sym (same_here e there same))
+        | false ↦ λ _. refl
+      ] refl
+
+  all_changed : (es : List (ℕ × Fileset)) → ArePlaced t es
+      → list_map (λ e. checkpoint_on store u e.0 e.1) (filter (λ (e : ℕ × Fileset). not e.1.gone) (list_map (set_at id (change f)) es))
+      ≡ list_map (changed_by name model) (list_map (λ (e : ℕ × Fileset). checkpoint_on store t e.0 e.1) (filter (λ (e : ℕ × Fileset). not e.1.gone) es))
+  all_changed [] placed = refl
+  all_changed (e ∷ es) placed =
+      let rest = all_changed es placed.1 in
+      let there = placed.0.stands in
+      let left = filter (λ (x : ℕ × Fileset). not x.1.gone) (list_map (set_at id (change f)) es) in
+      let old = filter (λ (x : ℕ × Fileset). not x.1.gone) es in
+      ap (λ b. list_map (λ (x : ℕ × Fileset). checkpoint_on store u x.0 x.1) (cond (not b) (set_at id (change f) e ∷ left) left)) (gone_same e there)
+      ∙ elim e.1.gone as (λ b. e.1.gone ≡ b → list_map (λ (x : ℕ × Fileset). checkpoint_on store u x.0 x.1) (cond (not b) (set_at id (change f) e ∷ left) left)
+      ≡ list_map (changed_by name model) (list_map (λ (x : ℕ × Fileset). checkpoint_on store t x.0 x.1) (cond (not b) (e ∷ old) old))) [
+        | true ↦ λ _. rest
+        | false ↦ λ live. (λ i. one_changed e there live i ∷ rest i)
+      ] refl
+
+  checkpoints_changed : IsTable t → checkpoints_on store u ≡ list_map (changed_by name model) (checkpoints_on store t)
+  checkpoints_changed lawful =
+      ap (λ es. list_map (λ e. checkpoint_on store u e.0 e.1) (filter (λ (e : ℕ × Fileset). not e.1.gone) es)) (entries_over t id (change f) (ap is_some is))
+      ∙ all_changed (map.entries t.filesets) (all_placed t lawful)
+
+  world_changed : (mounts : Mounts) → IsTable t → world_on store mounts u ≡ with_changed (world_on store mounts t) name model
+  world_changed mounts lawful = λ i. record (world_on store mounts t) {
+    primary = cells_on store (values_over t id (change f) values 0 i);
+    checkpoints = checkpoints_changed lawful i;
+  }
+
+-- the table with the changed record stands for the world with that checkpoint changed
+pub world-set : (store : Store) (mounts : Mounts) (t : Table) → IsTable t → IsSound t → (name : List ℕ) (id : ℕ) → names.is_named t name id ≡ true
+    → (change : Fileset → Fileset) (model : Checkpoint → Checkpoint) → ((x : ℕ) (f : Fileset) → checkpoint_on store t x (change f) ≡ model (checkpoint_on store t x f))
+    → ((f : Fileset) → StaysOne f (change f)) → ((fs : ℕ) (key : Key) → value_of (with_record t id change) fs key ≡ value_of t fs key)
+    → world_on store mounts (with_record t id change) ≡ with_changed (world_on store mounts t) name model
+world-set store mounts t lawful sound name id named change model shown stays values =
+    elim (map.get t.filesets id) as (λ o. map.get t.filesets id ≡ o → IsSome o → ((fs : ℕ) (key : Key) → value_of (with_fileset t id (option_map change o)) fs key ≡ value_of t fs key)
+    → world_on store mounts (with_fileset t id (option_map change o)) ≡ with_changed (world_on store mounts t) name model) [
+      | None ↦ λ _ h. absurd (false≢true h)
+      | Some f ↦ λ is _ same. world_changed store t sound name id named change model shown f is (stays f) same mounts lawful
+    ] refl (stands_live t id (named_live t name id named)) values
+
+-- ---- it keeps no data
+
+nodata_on : (store : Store) (t : Table) (x : ℕ) (f : Fileset) → checkpoint_on store t x (flags.as_nodata f) ≡ as_nodata (checkpoint_on store t x f)
+nodata_on store t x f =
+    let cells = cells_on store (values_of t x) in
+    let same : marked cells ≡ marked (shown_by f.kind cells) = elim f.kind as (λ kind. marked cells ≡ marked (shown_by kind cells)) [ Keeping ↦ refl | Nodata ↦ sym (marked_again cells) ] in
+    λ i. record { id = x; name = f.name; kind = Nodata; removable = f.removable; ctime = f.ctime; cells = same i }
+
+pub world-with_nodata : (store : Store) (mounts : Mounts) (t : Table) → IsTable t → IsSound t → (name : List ℕ) (id : ℕ) → names.is_named t name id ≡ true
+    → world_on store mounts (with_nodata t id) ≡ with_changed (world_on store mounts t) name as_nodata
+world-with_nodata store mounts t lawful sound name id named =
+    world-set store mounts t lawful sound name id named flags.as_nodata as_nodata (nodata_on store t) stays_nodata (value-with_nodata t id (named_live t name id named))
+
+-- ---- it may be given up, or not
+
+pub world-with_removable : (store : Store) (mounts : Mounts) (t : Table) → IsTable t → IsSound t → (name : List ℕ) (id : ℕ) (on : Bool) → names.is_named t name id ≡ true
+    → world_on store mounts (with_removable t id on) ≡ with_changed (world_on store mounts t) name (λ checkpoint. record checkpoint { removable = on })
+world-with_removable store mounts t lawful sound name id on named =
+    world-set store mounts t lawful sound name id named (as_removable on) (λ checkpoint. record checkpoint { removable = on }) (λ x f. refl) (stays_removable on) (value-with_removable t id on (named_live t name id named))
