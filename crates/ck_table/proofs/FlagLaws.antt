@@ -188,7 +188,7 @@ module _ (t : Table) (id : ℕ) (live : is_live t id ≡ true) where
   value-with_nodata fs key = at_set t id as_nodata (λ u. value_of u fs key ≡ value_of t fs key) live (λ f is. value_set t id f (as_nodata f) is (stays_nodata f) fs key)
 
   pub seen-with_nodata : IsTable t → (fs : ℕ) (key : Key) → fs ≢ id → is_live_data t fs ≡ true → seen (with_nodata t id) fs key ≡ seen t fs key
-  seen-with_nodata lawful fs key differs data = at_set t id as_nodata (λ u. seen u fs key ≡ seen t fs key) live (λ f is. seen_set t id f (as_nodata f) is (stays_nodata f) lawful (lawful_set t id f (as_nodata f) is (stays_nodata f) lawful) fs key differs data)
+  seen-with_nodata lawful fs key differs reads = at_set t id as_nodata (λ u. seen u fs key ≡ seen t fs key) live (λ f is. seen_set t id f (as_nodata f) is (stays_nodata f) lawful (lawful_set t id f (as_nodata f) is (stays_nodata f) lawful) fs key differs reads)
 
   pub keeps-with_nodata : (fs : ℕ) → keeps_data t fs ≡ false → keeps_data (with_nodata t id) fs ≡ false
   keeps-with_nodata fs none = at_set t id as_nodata (λ u. keeps_data u fs ≡ false) live (λ f is. no_data_set t id f (as_nodata f) is (stays_nodata f) fs none)

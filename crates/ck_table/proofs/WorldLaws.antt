@@ -1,5 +1,5 @@
 -- The worlds of a table in which a checkpoint keeps no data from now on, may be given up or not, or leaves.
-use Rattle.std.proofs.Common.{◌≡◌, ℕ, ◌<◌, Bool, true, false, cond, not, ◌&&◌, ◌||◌, T, List, [], ◌∷◌, length, map as list_map, filter, find, take_while, Option, Some, None, Result, Ok, Err, IsSome, is_some, if◌then◌else◌, nat_eq, nat_lt, nat_le, refl, sym, ap, subst, ◌∙◌, arith}
+use Rattle.std.proofs.Common.{◌≡◌, ℕ, ◌+◌, ◌<◌, Bool, true, false, cond, not, ◌&&◌, ◌||◌, T, List, [], ◌∷◌, length, map as list_map, filter, find, take_while, Option, Some, None, Result, Ok, Err, IsSome, is_some, if◌then◌else◌, nat_eq, nat_lt, nat_le, refl, sym, ap, subst, ◌∙◌, arith}
 use Rattle.std.specs.declared.cmp.Ordering.TheVariants.{Less, Equal, Greater}
 use Rattle.std.specs.Ordering.{nat_cmp, is_lt, is_eq, eq_by_cmp}
 use Rattle.std.specs.Cmp.Lexicographic.{pointwise, bytes_decides}
@@ -11,14 +11,17 @@ use Rattle.std.specs.FinMap as map
 use Rattle.std.proofs.lemmas.Bool.{false≢true, false_from_ne_true, and_parts}
 use Rattle.std.proofs.lemmas.Bool.Decides.{nat_tests}
 use Rattle.std.proofs.lemmas.Cmp.{nat_cmp_total}
+use Rattle.std.proofs.lemmas.List.Sums.{take_while-cons}
 use Rattle.ck_model.specs.declared.key.Key.{Key}
 use Rattle.ck_model.specs.declared.checkpoint.Fileset.{Fileset}
 use Rattle.ck_model.specs.declared.checkpoint.Kind.{Kind}
 use Rattle.ck_model.specs.declared.checkpoint.Kind.TheVariants.{Keeping, Nodata}
+use Rattle.ck_model.specs.declared.reply.Reply.{Reply}
 use Rattle.ck_model.specs.declared.reply.Reply.TheVariants.{Done, Delayed, NoCkpt}
 use Rattle.ck_model.specs.Cells.{marked}
 use Rattle.ck_model.specs.CheckpointCalls.{any_keeps, as_nodata, checkpoint_named, dropped, older_than, with_changed, with_flag}
-use Rattle.ck_model.specs.Step.{converted, told}
+use Rattle.ck_model.specs.Refusals.{and_then}
+use Rattle.ck_model.specs.Step.{converted, outcome_of, told}
 use Rattle.ck_model.specs.World.{World, Checkpoint, Mounts, has_id, is_named, keeps_files, shown_by, without_checkpoint}
 use Rattle.ck_model.specs.Table.{Table, IsTable, column, newer, with_fileset}
 use Rattle.ck_model.specs.Chain.{is_live, is_live_data, keeps_data, present, value_at, value_of}
@@ -43,7 +46,7 @@ use Rattle.ck_table.proofs.LeaveLaws.{stands_live, value-with_gone}
 abbrev pub set_at : ℕ → Fileset → ℕ × Fileset → ℕ × Fileset
 set_at id v e = (e.0, cond (nat_eq e.0 id) v e.1)
 
-above_head : (x y : ℕ) (b : Bool) → T (is_lt (nat_cmp x y) && b) → (x < y) × T b
+pub above_head : (x y : ℕ) (b : Bool) → T (is_lt (nat_cmp x y) && b) → (x < y) × T b
 above_head x y b h = grind (arith, nat_tests)
 
 pair_is : (e : ℕ × Fileset) → (e.0, e.1) ≡ e
@@ -91,7 +94,7 @@ values_over t id v same fs = λ i. map.from_entries (valued (λ key. same_value_
 -- ---- by the name of one that stands
 
 -- what the world calls it
-named_one : (t : Table) (name : List ℕ) (id : ℕ) → names.is_named t name id ≡ true → (f : Fileset) → map.get t.filesets id ≡ Some f → (f.gone ≡ false) × (f.name ≡ name)
+pub named_one : (t : Table) (name : List ℕ) (id : ℕ) → names.is_named t name id ≡ true → (f : Fileset) → map.get t.filesets id ≡ Some f → (f.gone ≡ false) × (f.name ≡ name)
 named_one t name id named f is =
     let both = and_parts (not f.gone) (pointwise nat_eq f.name name) (sym (ap (λ o. option_map_or (λ (f : Fileset). not f.gone && pointwise nat_eq f.name name) o false) is) ∙ named) in
     (false_of f.gone both.0, (bytes_decides f.name name).0 both.1)
@@ -108,7 +111,7 @@ named_live t name id h = elim (map.get t.filesets id) as (λ o. option_map_or (�
 
 module _ (t : Table) (sound : IsSound t) (name : List ℕ) (id : ℕ) (named : names.is_named t name id ≡ true) where
   -- of those that stand it alone has the name
-  is_this : (f : Fileset) → map.get t.filesets id ≡ Some f → (e : ℕ × Fileset) → map.get t.filesets e.0 ≡ Some e.1 → e.1.gone ≡ false → pointwise nat_eq e.1.name name ≡ nat_eq e.0 id
+  pub is_this : (f : Fileset) → map.get t.filesets id ≡ Some f → (e : ℕ × Fileset) → map.get t.filesets e.0 ≡ Some e.1 → e.1.gone ≡ false → pointwise nat_eq e.1.name name ≡ nat_eq e.0 id
   is_this f is e there live =
       let own = named_one t name id named f is in
       elim (nat_eq e.0 id) as (λ b. nat_eq e.0 id ≡ b → pointwise nat_eq e.1.name name ≡ b) [
@@ -218,3 +221,241 @@ pub world-with_removable : (store : Store) (mounts : Mounts) (t : Table) → IsT
     → world_on store mounts (with_removable t id on) ≡ with_changed (world_on store mounts t) name (λ checkpoint. record checkpoint { removable = on })
 world-with_removable store mounts t lawful sound name id on named =
     world-set store mounts t lawful sound name id named (as_removable on) (λ checkpoint. record checkpoint { removable = on }) (λ x f. refl) (stays_removable on) (value-with_removable t id on (named_live t name id named))
+
+-- ---- what an older one keeps
+
+pub below_found : (x id : ℕ) (es : List (ℕ × Fileset)) → T (below_all nat_cmp x es) → IsSome (found nat_cmp id es) → x < id
+below_found x id [] below there = absurd (false≢true there)
+below_found x id (e ∷ es) below there =
+    let head = above_head x e.0 (below_all nat_cmp x es) below in
+    let less = head.0 in
+    elim (eq_by_cmp nat_cmp id e.0) as (λ b. eq_by_cmp nat_cmp id e.0 ≡ b → IsSome (cond b (Some e.1) (found nat_cmp id es)) → x < id) [
+      | true ↦ λ tied _. let same : id ≡ e.0 = grind (arith, nat_tests) in omega (arith, less, same)
+      | false ↦ λ _ further. below_found x id es head.1 further
+    ] refl there
+
+-- whether one keeps its files once this one doesn't
+data-with_nodata : (t : Table) (id x : ℕ) → is_live_data (with_nodata t id) x ≡ (is_live_data t x && not (nat_eq x id))
+data-with_nodata t id x =
+    ap (λ o. option_map_or (λ (f : Fileset). not f.gone && keeps_files f.kind) o false) (get-recorded t.filesets id (option_map flags.as_nodata (map.get t.filesets id)) x)
+    ∙ elim (nat_eq x id) as (λ b. option_map_or (λ (f : Fileset). not f.gone && keeps_files f.kind) (cond b (option_map flags.as_nodata (map.get t.filesets id)) (map.get t.filesets x)) false ≡ (is_live_data t x && not b)) [
+      | true ↦ dropped_one (map.get t.filesets id) ∙ sym (and_none (is_live_data t x))
+      | false ↦ sym (and_all (is_live_data t x))
+    ]
+  where
+    and_none : (b : Bool) → (b && false) ≡ false
+    and_none true = refl
+    and_none false = refl
+
+    and_all : (b : Bool) → (b && true) ≡ b
+    and_all true = refl
+    and_all false = refl
+
+    dropped_one : (o : Option Fileset) → option_map_or (λ (f : Fileset). not f.gone && keeps_files f.kind) (option_map flags.as_nodata o) false ≡ false
+    dropped_one None = refl
+    dropped_one (Some f) = and_none (not f.gone)
+
+-- none of those behind it is so old
+none_behind : (p : ℕ → Bool) (id : ℕ) (es : List (ℕ × Fileset)) → T (below_all nat_cmp id es) → list_any (λ x. nat_le x id && p x) (filter (λ x. nat_lt 0 x) (list_map (λ e. e.0) es)) ≡ false
+none_behind p id [] below = refl
+none_behind p id (e ∷ es) below =
+    let head = above_head id e.0 (below_all nat_cmp id es) below in
+    let less = head.0 in
+    let positive : nat_lt 0 e.0 ≡ true = grind (arith, nat_tests) in
+    let past : nat_le e.0 id ≡ false = grind (arith, nat_tests) in
+    ap (λ b. list_any (λ x. nat_le x id && p x) (cond b (e.0 ∷ filter (λ x. nat_lt 0 x) (list_map (λ e. e.0) es)) (filter (λ x. nat_lt 0 x) (list_map (λ e. e.0) es)))) positive
+    ∙ ap (λ b. (b && p e.0) || list_any (λ x. nat_le x id && p x) (filter (λ x. nat_lt 0 x) (list_map (λ e. e.0) es))) past
+    ∙ none_behind p id es head.1
+
+module _ (store : Store) (t : Table) (sound : IsSound t) (name : List ℕ) (id : ℕ) (named : names.is_named t name id ≡ true) (f : Fileset) (is : map.get t.filesets id ≡ Some f) where
+  abbrev shown_of : List (ℕ × Fileset) → List Checkpoint
+  shown_of es = list_map (λ e. checkpoint_on store t e.0 e.1) (filter (λ (e : ℕ × Fileset). not e.1.gone) es)
+
+  abbrev ids_in : List (ℕ × Fileset) → List ℕ
+  ids_in es = filter (λ x. nat_lt 0 x) (list_map (λ e. e.0) es)
+
+  abbrev keeps_upto : ℕ → Bool
+  keeps_upto x = nat_le x id && is_live_data (with_nodata t id) x
+
+  abbrev older_of : List Checkpoint → List Checkpoint
+  older_of checkpoints = take_while (λ checkpoint. not (is_named name checkpoint)) checkpoints
+
+  older_keeps : (es : List (ℕ × Fileset)) → ArePlaced t es → T (is_sorted nat_cmp es) → IsSome (found nat_cmp id es)
+      → list_any keeps_upto (ids_in es) ≡ any_keeps (older_of (shown_of es))
+  older_keeps [] placed sorted there = absurd (false≢true there)
+  older_keeps (e ∷ es) placed sorted there =
+      let parts = head_of (below_all nat_cmp e.0 es) (is_sorted nat_cmp es) sorted in
+      let least = placed.0.some in
+      let positive : nat_lt 0 e.0 ≡ true = grind (arith, nat_tests) in
+      let stands = placed.0.stands in
+      let left = filter (λ (x : ℕ × Fileset). not x.1.gone) es in
+      ap (λ b. list_any keeps_upto (cond b (e.0 ∷ ids_in es) (ids_in es))) positive
+      ∙ elim (nat_eq e.0 id) as (λ b. nat_eq e.0 id ≡ b → (keeps_upto e.0 || list_any keeps_upto (ids_in es)) ≡ any_keeps (older_of (shown_of (e ∷ es)))) [
+        | true ↦ λ same.
+            let at : e.0 ≡ id = grind (arith, nat_tests) in
+            let one : e.1 ≡ f = some_same e.1 f (sym stands ∙ ap (map.get t.filesets) at ∙ is) in
+            let live : e.1.gone ≡ false = ap (λ (x : Fileset). x.gone) one ∙ (named_one t name id named f is).0 in
+            let none : keeps_upto e.0 ≡ false = ap (λ b. nat_le e.0 id && b) (data-with_nodata t id e.0 ∙ ap (λ b. is_live_data t e.0 && not b) same) ∙ two_none (nat_le e.0 id) (is_live_data t e.0) in
+            let behind = none_behind (is_live_data (with_nodata t id)) id es (subst (λ x. T (below_all nat_cmp x es)) at parts.0) in
+            (λ i. none i || behind i)
+            ∙ sym (ap (λ b. any_keeps (older_of (list_map (λ (x : ℕ × Fileset). checkpoint_on store t x.0 x.1) (cond (not b) (e ∷ left) left)))) live
+            ∙ ap any_keeps (take_while-cons (λ checkpoint. not (is_named name checkpoint)) (checkpoint_on store t e.0 e.1) (shown_of es))
+            ∙ ap (λ b. any_keeps (cond (not b) (checkpoint_on store t e.0 e.1 ∷ older_of (shown_of es)) [])) (is_this t sound name id named f is e stands live ∙ same))
+        | false ↦ λ apart.
+            let untied : eq_by_cmp nat_cmp id e.0 ≡ false = grind (arith, nat_tests) in
+            let further : IsSome (found nat_cmp id es) = subst (λ b. IsSome (cond b (Some e.1) (found nat_cmp id es))) untied there in
+            let less = below_found e.0 id es parts.0 further in
+            let within : nat_le e.0 id ≡ true = grind (arith, nat_tests) in
+            let rest = older_keeps es placed.1 parts.1 further in
+            let own : keeps_upto e.0 ≡ ((not e.1.gone && keeps_files e.1.kind) && true) =
+                (λ i. within i && (data-with_nodata t id e.0 ∙ (λ j. option_map_or (λ (f : Fileset). not f.gone && keeps_files f.kind) (stands j) false && not (apart j))) i) in
+            (λ i. own i || rest i)
+            ∙ elim e.1.gone as (λ b. e.1.gone ≡ b → (((not b && keeps_files e.1.kind) && true) || any_keeps (older_of (shown_of es)))
+            ≡ any_keeps (older_of (list_map (λ (x : ℕ × Fileset). checkpoint_on store t x.0 x.1) (cond (not b) (e ∷ left) left)))) [
+              | true ↦ λ _. refl
+              | false ↦ λ live.
+                  ap (λ b. b || any_keeps (older_of (shown_of es))) (and_all (keeps_files e.1.kind))
+                  ∙ sym (ap any_keeps (take_while-cons (λ checkpoint. not (is_named name checkpoint)) (checkpoint_on store t e.0 e.1) (shown_of es))
+                  ∙ ap (λ b. any_keeps (cond (not b) (checkpoint_on store t e.0 e.1 ∷ older_of (shown_of es)) [])) (is_this t sound name id named f is e stands live ∙ apart))
+            ] refl
+      ] refl
+    where
+      two_none : (a b : Bool) → (a && (b && false)) ≡ false
+      two_none true true = refl
+      two_none true false = refl
+      two_none false b = refl
+
+      and_all : (b : Bool) → (b && true) ≡ b
+      and_all true = refl
+      and_all false = refl
+
+-- once it keeps no data, its data is kept still where an older one keeps data
+pub keeps-older : (store : Store) (mounts : Mounts) (t : Table) → IsTable t → IsSound t → (name : List ℕ) (id : ℕ) → names.is_named t name id ≡ true
+    → keeps_data (with_nodata t id) id ≡ any_keeps (older_than (world_on store mounts t) name)
+keeps-older store mounts t lawful sound name id named =
+    elim (map.get t.filesets id) as (λ o. map.get t.filesets id ≡ o → IsSome o → keeps_data (with_nodata t id) id ≡ any_keeps (older_than (world_on store mounts t) name)) [
+      | None ↦ λ _ h. absurd (false≢true h)
+      | Some f ↦ λ is _.
+          ap (list_any (λ x. nat_le x id && is_live_data (with_nodata t id) x)) (newer-with_nodata t id (named_live t name id named) 0)
+          ∙ older_keeps store t sound name id named f is (map.entries t.filesets) (all_placed t lawful) (entries_sorted t.filesets) (ap is_some (sym (map.get-entries t.filesets id) ∙ is))
+    ] refl (stands_live t id (named_live t name id named))
+
+-- ---- the one with a name
+
+-- the checkpoint with this id
+abbrev pub checkpoint_at : Store → Table → ℕ → Option Checkpoint
+checkpoint_at store t id = option_map (checkpoint_on store t id) (map.get t.filesets id)
+
+find_named : (store : Store) (t : Table) (name : List ℕ) (es : List (ℕ × Fileset)) → ArePlaced t es
+    → find (is_named name) (list_map (λ e. checkpoint_on store t e.0 e.1) (filter (λ (e : ℕ × Fileset). not e.1.gone) es)) ≡ option_and_then (checkpoint_at store t) (find (names.is_named t name) (filter (λ x. nat_lt 0 x) (list_map (λ e. e.0) es)))
+find_named store t name [] placed = refl
+find_named store t name (e ∷ es) placed =
+    let rest = find_named store t name es placed.1 in
+    let least = placed.0.some in
+    let positive : nat_lt 0 e.0 ≡ true = grind (arith, nat_tests) in
+    let left = filter (λ (x : ℕ × Fileset). not x.1.gone) es in
+    let ids = filter (λ x. nat_lt 0 x) (list_map (λ (x : ℕ × Fileset). x.0) es) in
+    let here : names.is_named t name e.0 ≡ (not e.1.gone && pointwise nat_eq e.1.name name) = ap (λ o. option_map_or (λ (f : Fileset). not f.gone && pointwise nat_eq f.name name) o false) placed.0.stands in
+    let there : checkpoint_at store t e.0 ≡ Some (checkpoint_on store t e.0 e.1) = ap (option_map (checkpoint_on store t e.0)) placed.0.stands in
+    elim (not e.1.gone) as (λ b. find (is_named name) (list_map (λ (x : ℕ × Fileset). checkpoint_on store t x.0 x.1) (cond b (e ∷ left) left)) ≡ option_and_then (checkpoint_at store t) (cond (b && pointwise nat_eq e.1.name name) (Some e.0) (find (names.is_named t name) ids))) [
+      | true ↦ elim (pointwise nat_eq e.1.name name) as (λ v. cond v (Some (checkpoint_on store t e.0 e.1)) (find (is_named name) (list_map (λ (x : ℕ × Fileset). checkpoint_on store t x.0 x.1) left)) ≡ option_and_then (checkpoint_at store t) (cond v (Some e.0) (find (names.is_named t name) ids))) [
+        | true ↦ sym there
+        | false ↦ rest
+      ]
+      | false ↦ rest
+    ]
+    ∙ sym (ap (λ b. option_and_then (checkpoint_at store t) (cond b (Some e.0) (find (names.is_named t name) ids))) here)
+    ∙ sym (ap (λ b. option_and_then (checkpoint_at store t) (find (names.is_named t name) (cond b (e.0 ∷ ids) ids))) positive)
+
+-- the world finds the checkpoint that the table finds
+pub named-is : (store : Store) (t : Table) (name : List ℕ) → IsTable t → find (is_named name) (checkpoints_on store t) ≡ option_and_then (checkpoint_at store t) (names.id_named t name)
+named-is store t name lawful = find_named store t name (map.entries t.filesets) (all_placed t lawful)
+
+module _ (store : Store) (mounts : Mounts) (t : Table) (lawful : IsTable t) (name : List ℕ) where
+  abbrev w : World
+  w = world_on store mounts t
+
+  pub named-none : names.id_named t name ≡ None → checkpoint_named w name ≡ Err NoCkpt
+  named-none none = ap (λ o. ok_or o NoCkpt) (named-is store t name lawful ∙ ap (option_and_then (checkpoint_at store t)) none)
+
+  pub named-some : (id : ℕ) (f : Fileset) → names.id_named t name ≡ Some id → map.get t.filesets id ≡ Some f → checkpoint_named w name ≡ Ok (checkpoint_on store t id f)
+  named-some id f is there = ap (λ o. ok_or o NoCkpt) (named-is store t name lawful ∙ ap (option_and_then (checkpoint_at store t)) is ∙ ap (option_map (checkpoint_on store t id)) there)
+
+  -- what a call on the one with the name comes to
+  pub at_named : (id : ℕ) → names.id_named t name ≡ Some id → names.is_named t name id ≡ true → (P : Result Checkpoint Reply → Type 0) → ((f : Fileset) → map.get t.filesets id ≡ Some f → P (Ok (checkpoint_on store t id f))) → P (checkpoint_named w name)
+  at_named id is named P each =
+      elim (map.get t.filesets id) as (λ o. map.get t.filesets id ≡ o → IsSome o → P (checkpoint_named w name)) [
+        | None ↦ λ _ h. absurd (false≢true h)
+        | Some f ↦ λ there _. subst P (sym (named-some id f is there)) (each f there)
+      ] refl (stands_live t id (named_live t name id named))
+
+  -- `nodata`
+  pub converted-none : names.id_named t name ≡ None → converted w name ≡ told w NoCkpt
+  converted-none none = ap (λ r. outcome_of w (and_then r (λ _. Ok (told (with_changed w name as_nodata) (if any_keeps (older_than w name) then Delayed else Done))))) (named-none none)
+
+  pub converted-is : IsSound t → (id : ℕ) → names.id_named t name ≡ Some id → names.is_named t name id ≡ true
+      → converted w name ≡ told (world_on store mounts (with_nodata t id)) (if keeps_data (with_nodata t id) id then Delayed else Done)
+  converted-is sound id is named =
+      at_named id is named (λ r. outcome_of w (and_then r (λ _. Ok (told (with_changed w name as_nodata) (if any_keeps (older_than w name) then Delayed else Done))))
+      ≡ told (world_on store mounts (with_nodata t id)) (if keeps_data (with_nodata t id) id then Delayed else Done)) (λ f there.
+      let world = sym (world-with_nodata store mounts t lawful sound name id named) in
+      let older = sym (keeps-older store mounts t lawful sound name id named) in
+      λ i. told (world i) (if older i then Delayed else Done))
+
+  -- `removable`
+  pub flagged-none : (on : Bool) → names.id_named t name ≡ None → with_flag w name on ≡ Err NoCkpt
+  flagged-none on none = ap (λ r. and_then r (λ (_ : Checkpoint). Ok (with_changed w name (λ checkpoint. record checkpoint { removable = on })))) (named-none none)
+
+  pub flagged-is : IsSound t → (id : ℕ) (on : Bool) → names.id_named t name ≡ Some id → names.is_named t name id ≡ true → with_flag w name on ≡ Ok (world_on store mounts (with_removable t id on))
+  flagged-is sound id on is named =
+      at_named id is named (λ r. and_then r (λ (_ : Checkpoint). Ok (with_changed w name (λ checkpoint. record checkpoint { removable = on }))) ≡ Ok (world_on store mounts (with_removable t id on))) (λ f there.
+      ap (λ (v : World). Ok v) (sym (world-with_removable store mounts t lawful sound name id on named)))
+
+-- ---- one leaves
+
+module _ (store : Store) (t : Table) (id : ℕ) (f : Fileset) (is : map.get t.filesets id ≡ Some f)
+    (values : (fs : ℕ) (key : Key) → value_of (with_fileset t id (Some (as_gone f))) fs key ≡ value_of t fs key) where
+  abbrev gone_on : Table
+  gone_on = with_fileset t id (Some (as_gone f))
+
+  other_same : (x : ℕ) (v : Fileset) → checkpoint_on store gone_on x v ≡ checkpoint_on store t x v
+  other_same x v = λ i. record { id = x; name = v.name; kind = v.kind; removable = v.removable; ctime = v.ctime; cells = shown_by v.kind (cells_on store (values_over t id (as_gone f) values x i)) }
+
+  abbrev others_of : List Checkpoint → List Checkpoint
+  others_of checkpoints = filter (λ checkpoint. not (has_id id checkpoint)) checkpoints
+
+  all_others : (es : List (ℕ × Fileset))
+      → list_map (λ e. checkpoint_on store gone_on e.0 e.1) (filter (λ (e : ℕ × Fileset). not e.1.gone) (list_map (set_at id (as_gone f)) es))
+      ≡ others_of (list_map (λ (e : ℕ × Fileset). checkpoint_on store t e.0 e.1) (filter (λ (e : ℕ × Fileset). not e.1.gone) es))
+  all_others [] = refl
+  all_others (e ∷ es) =
+      let rest = all_others es in
+      let left = filter (λ (x : ℕ × Fileset). not x.1.gone) (list_map (set_at id (as_gone f)) es) in
+      let old = filter (λ (x : ℕ × Fileset). not x.1.gone) es in
+      let shown = list_map (λ (x : ℕ × Fileset). checkpoint_on store t x.0 x.1) in
+      elim (nat_eq e.0 id) as (λ b. nat_eq e.0 id ≡ b → list_map (λ (x : ℕ × Fileset). checkpoint_on store gone_on x.0 x.1) (cond (not (cond b (as_gone f) e.1).gone) ((e.0, cond b (as_gone f) e.1) ∷ left) left)
+      ≡ others_of (shown (cond (not e.1.gone) (e ∷ old) old))) [
+        | true ↦ λ same. rest ∙ elim e.1.gone as (λ g. others_of (shown old) ≡ others_of (shown (cond (not g) (e ∷ old) old))) [
+          | true ↦ refl
+          | false ↦ sym (ap (λ b. cond (not b) (checkpoint_on store t e.0 e.1 ∷ others_of (shown old)) (others_of (shown old))) same)
+        ]
+        | false ↦ λ apart. elim e.1.gone as (λ g. list_map (λ (x : ℕ × Fileset). checkpoint_on store gone_on x.0 x.1) (cond (not g) (e ∷ left) left) ≡ others_of (shown (cond (not g) (e ∷ old) old))) [
+          | true ↦ rest
+          | false ↦ (λ i. other_same e.0 e.1 i ∷ rest i) ∙ sym (ap (λ b. cond (not b) (checkpoint_on store t e.0 e.1 ∷ others_of (shown old)) (others_of (shown old))) apart)
+        ]
+      ] refl
+
+  world_left : (mounts : Mounts) → world_on store mounts gone_on ≡ without_checkpoint (world_on store mounts t) id
+  world_left mounts = λ i. record (world_on store mounts t) {
+    primary = cells_on store (values_over t id (as_gone f) values 0 i);
+    checkpoints = (ap (λ es. list_map (λ e. checkpoint_on store gone_on e.0 e.1) (filter (λ (e : ℕ × Fileset). not e.1.gone) es)) (entries_over t id (as_gone f) (ap is_some is)) ∙ all_others (map.entries t.filesets)) i;
+  }
+
+-- the table with one gone stands for the world without it
+pub world-with_gone : (store : Store) (mounts : Mounts) (t : Table) (id : ℕ) → is_live t id ≡ true → world_on store mounts (with_gone t id) ≡ without_checkpoint (world_on store mounts t) id
+world-with_gone store mounts t id live =
+    elim (map.get t.filesets id) as (λ o. map.get t.filesets id ≡ o → IsSome o → ((fs : ℕ) (key : Key) → value_of (with_fileset t id (option_map as_gone o)) fs key ≡ value_of t fs key)
+    → world_on store mounts (with_fileset t id (option_map as_gone o)) ≡ without_checkpoint (world_on store mounts t) id) [
+      | None ↦ λ _ h. absurd (false≢true h)
+      | Some f ↦ λ is _ same. world_left store t id f is same mounts
+    ] refl (stands_live t id live) (value-with_gone t id live)
