@@ -5,3 +5,4 @@ pub mod StripLemmas
 pub mod PlaceLemmas
 pub mod StrippedLaws
 pub mod PlaceLaws
+pub mod HeldLaws

@@ -21,6 +21,7 @@ use Rattle.ck_model.specs.Rules.{IsOrderly, IsSound}
 use Rattle.ck_model.proofs.CaseLaws.{and_left, and_right, none_some, not_true, some_same, true_or_false}
 use Rattle.ck_chain.specs.Changes.{key_of, value_after}
 use Rattle.ck_chain.specs.Kept.{pushed}
+use Rattle.ck_chain.specs.Order.{is_behind}
 use Rattle.ck_chain.proofs.ColumnLaws.{same_or_other}
 use Rattle.ck_chain.proofs.OrderlyLaws.{positive_id}
 use Rattle.ck_chain.proofs.ReadLaws.{live_stands}
@@ -30,10 +31,10 @@ use Rattle.ck_push.proofs.ChangeLaws.{is_change, lawful_after, may_all_after, so
 use Rattle.ck_table.specs.Added.{with_added}
 use Rattle.ck_table.specs.Flags.{with_nodata, with_removable}
 use Rattle.ck_table.specs.Gone.{with_gone}
-use Rattle.ck_table.proofs.FlagLaws.{keeps-with_removable, live-with_nodata, live-with_removable, newer-with_nodata}
-use Rattle.ck_table.proofs.IdLaws.{get-recorded, get-recorded_other, keys-insert_last}
-use Rattle.ck_table.proofs.LeaveLaws.{any_more, newer-with_gone}
-use Rattle.ck_table.proofs.WorldLaws.{data-with_nodata}
+use Rattle.ck_table.proofs.FlagLaws.{keeps-with_removable, live-with_nodata, live-with_removable}
+use Rattle.ck_table.proofs.IdLaws.{get-recorded_other, keys-insert_last}
+use Rattle.ck_table.proofs.KeepsLaws.{keeps_older-with_gone, keeps_older-with_nodata}
+use Rattle.ck_table.proofs.LeaveLaws.{any_more, live-with_gone}
 use Rattle.ck_nodata.specs.declared.item.StripItem.{StripItem}
 use Rattle.ck_nodata.specs.StripItem.{IsStrippedTo, drops_data, is_extent, is_unstripped}
 
@@ -233,3 +234,64 @@ left_before_flagged t id on live fs key left =
 
 pub stripped_flagged : (t : Table) (id : ℕ) (on : Bool) (last : StripItem) → is_live t id ≡ true → IsStrippedTo t last → IsStrippedTo (with_removable t id on) last
 stripped_flagged t id on last live done = stripped_before t (with_removable t id on) last (left_before_flagged t id on live) done
+
+-- ---- one leaves, or keeps no data from now on
+
+-- of what is older than one that leaves, nothing new is stripped
+pub left_older_gone : (t : Table) (id : ℕ) → is_live t id ≡ true → (fs : ℕ) (key : Key) → fs < id → is_unstripped (with_gone t id) fs key ≡ true → is_unstripped t fs key ≡ true
+left_older_gone t id live fs key less left =
+    let is = left_is (with_gone t id) fs key left in
+    is_left t fs key (record {
+      live = and_left (is_live t fs) (not (nat_eq fs id)) (sym (live-with_gone t id live fs) ∙ is.live);
+      drops = sym (keeps_older-with_gone t id live fs less) ∙ is.drops;
+      extent = is.extent;
+    })
+
+-- nor of what is older than one that keeps no data
+pub left_older_nodata : (t : Table) (id : ℕ) → is_live t id ≡ true → (fs : ℕ) (key : Key) → fs < id → is_unstripped (with_nodata t id) fs key ≡ true → is_unstripped t fs key ≡ true
+left_older_nodata t id live fs key less left =
+    let is = left_is (with_nodata t id) fs key left in
+    is_left t fs key (record {
+      live = sym (live-with_nodata t id live fs) ∙ is.live;
+      drops = sym (keeps_older-with_nodata t id live fs less) ∙ is.drops;
+      extent = is.extent;
+    })
+
+-- none of those up to the place is left
+none_upto : (t : Table) (last : StripItem) (fs : ℕ) (key : Key) → IsStrippedTo t last → fs < last.id → is_unstripped t fs key ≡ true → ⊥
+none_upto t last fs key done less left = elim (done fs key left) [
+  | inl more ↦ omega (arith, more, less)
+  | inr here ↦ let same = here.0 in omega (arith, same, less)
+]
+
+module _ (t : Table) (id : ℕ) (live : is_live t id ≡ true) (last : StripItem) (done : IsStrippedTo t last) where
+  -- a place that is older stays one
+  pub stripped_gone : last.id < id → IsStrippedTo (with_gone t id) last
+  stripped_gone below fs key left = elim (cases_lt fs id) [
+    | inl less ↦ done fs key (left_older_gone t id live fs key less left)
+    | inr past ↦ inl (omega (arith, below, past))
+  ]
+
+  pub stripped_nodata : last.id < id → IsStrippedTo (with_nodata t id) last
+  stripped_nodata below fs key left = elim (cases_lt fs id) [
+    | inl less ↦ done fs key (left_older_nodata t id live fs key less left)
+    | inr past ↦ inl (omega (arith, below, past))
+  ]
+
+  -- else it is set back: to the one that leaves, and before the one that keeps no data
+  pub back_gone : (back : StripItem) → id ≤ last.id → back.id ≡ id → IsStrippedTo (with_gone t id) back
+  back_gone back past same fs key left = elim (cases_lt fs id) [
+    | inl less ↦ absurd (none_upto t last fs key done (omega (arith, less, past)) (left_older_gone t id live fs key less left))
+    | inr most ↦ elim (nat_eq fs id) as (λ b. nat_eq fs id ≡ b → (back.id < fs) ⊎ ((fs ≡ back.id) × (is_behind back.key key ≡ true))) [
+      | true ↦ λ this.
+          let stands = sym (live-with_gone t id live fs) ∙ (left_is (with_gone t id) fs key left).live in
+          absurd (false≢true (sym (ap not this) ∙ and_right (is_live t fs) (not (nat_eq fs id)) stands))
+      | false ↦ λ apart. let more : id < fs = grind (arith, nat_tests) in inl (omega (arith, more, same))
+    ] refl
+  ]
+
+  pub back_nodata : (back : StripItem) → id ≤ last.id → back.id < id → IsStrippedTo (with_nodata t id) back
+  back_nodata back past before fs key left = elim (cases_lt fs id) [
+    | inl less ↦ absurd (none_upto t last fs key done (omega (arith, less, past)) (left_older_nodata t id live fs key less left))
+    | inr most ↦ inl (omega (arith, before, most))
+  ]

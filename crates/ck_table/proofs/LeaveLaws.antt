@@ -158,6 +158,12 @@ at_gone t id P live each =
       | Some f ↦ λ is _. each f is
     ] refl (stands_live t id live)
 
+pub newer-with_gone : (t : Table) (id : ℕ) → is_live t id ≡ true → (fs : ℕ) → newer (with_gone t id) fs ≡ newer t fs
+newer-with_gone t id live fs = at_gone t id (λ u. newer u fs ≡ newer t fs) live (λ f is. newer-gone t id f is fs)
+
+pub live-with_gone : (t : Table) (id : ℕ) → is_live t id ≡ true → (x : ℕ) → is_live (with_gone t id) x ≡ (is_live t x && is_other id x)
+live-with_gone t id live x = at_gone t id (λ u. is_live u x ≡ (is_live t x && is_other id x)) live (λ f is. is_live-gone t id f x)
+
 pub value-with_gone : (t : Table) (id : ℕ) → is_live t id ≡ true → (fs : ℕ) (key : Key) → value_of (with_gone t id) fs key ≡ value_of t fs key
 value-with_gone t id live fs key = at_gone t id (λ u. value_of u fs key ≡ value_of t fs key) live (λ f is. value_gone t id f is fs key)
 

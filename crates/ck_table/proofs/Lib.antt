@@ -5,5 +5,6 @@ pub mod Sound
 pub mod AddLemmas
 pub mod LeaveLaws
 pub mod FlagLaws
+pub mod KeepsLaws
 pub mod ShownLaws
 pub mod WorldLaws

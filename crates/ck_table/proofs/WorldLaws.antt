@@ -37,6 +37,7 @@ use Rattle.ck_table.specs.Flags.{as_removable, with_nodata, with_record, with_re
 use Rattle.ck_table.specs.Gone.{as_gone, with_gone}
 use Rattle.ck_table.specs.Names as names
 use Rattle.ck_table.proofs.IdLaws.{get-recorded}
+use Rattle.ck_table.proofs.KeepsLaws.{data-with_nodata}
 use Rattle.ck_table.proofs.FlagLaws.{StaysOne, newer-with_nodata, stays_nodata, stays_removable, value-with_nodata, value-with_removable}
 use Rattle.ck_table.proofs.LeaveLaws.{stands_live, value-with_gone}
 
@@ -233,27 +234,6 @@ below_found x id (e ∷ es) below there =
       | true ↦ λ tied _. let same : id ≡ e.0 = grind (arith, nat_tests) in omega (arith, less, same)
       | false ↦ λ _ further. below_found x id es head.1 further
     ] refl there
-
--- whether one keeps its files once this one doesn't
-data-with_nodata : (t : Table) (id x : ℕ) → is_live_data (with_nodata t id) x ≡ (is_live_data t x && not (nat_eq x id))
-data-with_nodata t id x =
-    ap (λ o. option_map_or (λ (f : Fileset). not f.gone && keeps_files f.kind) o false) (get-recorded t.filesets id (option_map flags.as_nodata (map.get t.filesets id)) x)
-    ∙ elim (nat_eq x id) as (λ b. option_map_or (λ (f : Fileset). not f.gone && keeps_files f.kind) (cond b (option_map flags.as_nodata (map.get t.filesets id)) (map.get t.filesets x)) false ≡ (is_live_data t x && not b)) [
-      | true ↦ dropped_one (map.get t.filesets id) ∙ sym (and_none (is_live_data t x))
-      | false ↦ sym (and_all (is_live_data t x))
-    ]
-  where
-    and_none : (b : Bool) → (b && false) ≡ false
-    and_none true = refl
-    and_none false = refl
-
-    and_all : (b : Bool) → (b && true) ≡ b
-    and_all true = refl
-    and_all false = refl
-
-    dropped_one : (o : Option Fileset) → option_map_or (λ (f : Fileset). not f.gone && keeps_files f.kind) (option_map flags.as_nodata o) false ≡ false
-    dropped_one None = refl
-    dropped_one (Some f) = and_none (not f.gone)
 
 -- none of those behind it is so old
 none_behind : (p : ℕ → Bool) (id : ℕ) (es : List (ℕ × Fileset)) → T (below_all nat_cmp id es) → list_any (λ x. nat_le x id && p x) (filter (λ x. nat_lt 0 x) (list_map (λ e. e.0) es)) ≡ false
