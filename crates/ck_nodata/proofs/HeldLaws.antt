@@ -31,11 +31,11 @@ use Rattle.ck_nodata.proofs.WorkLemmas.{all_stripped, extent_stands, none_left, 
 -- ---- where nothing is left to strip
 
 pub none_where_zero : (t : Table) → unstripped_count t ≡ 0 → (fs : ℕ) (key : Key) → is_unstripped t fs key ≡ false
-none_where_zero t zero fs key =
+none_where_zero t nothing fs key =
     true_or_false (is_unstripped t fs key) (λ left.
     let stands = extent_stands (column t key fs) (and_right (drops_data t fs) (is_extent (column t key fs)) left) in
     let there : IsSome (map.get (unstripped t) (fs, key)) = subst IsSome (sym (get-unstripped t (fs, key) ∙ ap (λ b. cond b (column t key fs) None) left)) stands in
-    false≢true (sym (ap is_some (ap (λ (m : Entries). map.get m (fs, key)) (map.empty_of_len (unstripped t) zero) ∙ map.get-empty entry_cmp (fs, key))) ∙ there))
+    false≢true (sym (ap is_some (ap (λ (m : Entries). map.get m (fs, key)) (map.empty_of_len (unstripped t) nothing) ∙ map.get-empty entry_cmp (fs, key))) ∙ there))
 
 pub zero_where_none : (t : Table) → ((fs : ℕ) (key : Key) → is_unstripped t fs key ≡ false) → unstripped_count t ≡ 0
 zero_where_none t none =
@@ -45,7 +45,7 @@ zero_where_none t none =
 
 -- where no checkpoint is gone either, the table names as many data blocks as its world takes
 pub held-is : (store : Store) (mounts : Mounts) (t : Table) → IsTable t → IsSound t → NoneGone t → unstripped_count t ≡ 0 → held (world_on store mounts t) ≡ extent_count t
-held-is store mounts t lawful sound none zero = sym (extents_are store mounts t lawful sound none (all_stripped t (none_where_zero t zero) sound.orderly none))
+held-is store mounts t lawful sound none nothing = sym (extents_are store mounts t lawful sound none (all_stripped t (none_where_zero t nothing) sound.orderly none))
 
 -- and has as many records
 pub records-is : (store : Store) (mounts : Mounts) (t : Table) → IsTable t → IsSound t → NoneGone t → records_in (world_on store mounts t) ≡ record_count t
@@ -87,7 +87,7 @@ stripped_in : (n : ℕ) (t : Table) → IsTable t → IsSound t → unstripped_c
 stripped_in zero t lawful sound count = (t, record { lawful = lawful; sound = sound; unseen = unseen_itself t; filesets = refl; none = count })
 stripped_in (suc n) t lawful sound count =
     elim (strip_work_of t) as (λ o. strip_work_of t ≡ o → IfSome o (λ item. is_unstripped t item.id item.key ≡ true) → (u : Table) × IsAllStripped t u) [
-      | None ↦ λ none _. let zero = zero_where_none t (none_left t lawful none) in absurd (omega (arith, zero, count))
+      | None ↦ λ none _. let nothing = zero_where_none t (none_left t lawful none) in absurd (omega (arith, nothing, count))
       | Some item ↦ λ _ left.
           let found = some_is (column t item.key item.id) (extent_stands (column t item.key item.id) (and_right (drops_data t item.id) (is_extent (column t item.key item.id)) left)) in
           let u = with_entry t item.id item.key (Some (as_mark found.0)) in
