@@ -1,5 +1,5 @@
 -- How many data blocks and records a table takes, and its world.
-use Rattle.std.proofs.Common.{◌≡◌, ℕ, zero, suc, ◌+◌, ◌≤◌, true, false, cond, not, ◌&&◌, inl, inr, Option, Some, None, is_some, IsSome, IfSome, nat_eq, refl, sym, ap, subst, ◌∙◌, arith}
+use Rattle.std.proofs.Common.{◌≡◌, ℕ, zero, suc, ◌≤◌, true, false, cond, inl, inr, Option, Some, None, is_some, IsSome, IfSome, nat_eq, refl, sym, ap, subst, ◌∙◌, arith}
 use Rattle.std.specs.FinMap as map
 use Rattle.std.proofs.lemmas.Bool.{eqb-true, false≢true}
 use Rattle.ck_model.specs.declared.checkpoint.Fileset.{Fileset}
@@ -22,7 +22,6 @@ use Rattle.ck_chain.proofs.PushedLaws.{entry_pushed}
 use Rattle.ck_remove.specs.Unseen.{IsUnseen}
 use Rattle.ck_remove.proofs.DrainLaws.{drained, unseen_both, unseen_itself}
 use Rattle.ck_remove.proofs.WorldLaws.{unseen_world}
-use Rattle.ck_nodata.specs.declared.item.StripItem.{StripItem}
 use Rattle.ck_nodata.specs.StripItem.{drops_data, is_extent, is_unstripped, strip_work_of, unstripped_count}
 use Rattle.ck_nodata.proofs.CountLemmas.{get-unstripped, unstripped}
 use Rattle.ck_nodata.proofs.StripLemmas.{strip_is}

@@ -1,10 +1,10 @@
 -- Up to where nothing is left to strip, after a change of the primary, after a new checkpoint, and after a checkpoint leaves or its flags change.
-use Rattle.std.proofs.Common.{◌≡◌, ◌≢◌, ℕ, ◌<◌, ◌≤◌, ◌+◌, Bool, true, false, cond, not, ◌&&◌, ◌||◌, ◌⊎◌, inl, inr, List, [], ◌∷◌, ◌++◌, filter, Option, Some, None, IsSome, IfSome, is_some, if◌then◌else◌, nat_eq, nat_lt, nat_le, refl, sym, ap, subst, ◌∙◌, arith}
+use Rattle.std.proofs.Common.{◌≡◌, ◌≢◌, ℕ, ◌<◌, ◌≤◌, Bool, true, false, not, ◌&&◌, ◌||◌, ◌⊎◌, inl, inr, List, [], ◌∷◌, ◌++◌, filter, Option, Some, None, IsSome, IfSome, is_some, if◌then◌else◌, nat_eq, nat_lt, nat_le, refl, sym, ap, ◌∙◌, arith}
 use Rattle.std.specs.List.{list_any}
 use Rattle.std.specs.Ordering.{eq_by_cmp, is_eq}
-use Rattle.std.specs.Option.{option_map, option_map_or}
+use Rattle.std.specs.Option.{option_map_or}
 use Rattle.std.specs.FinMap as map
-use Rattle.std.proofs.lemmas.Bool.{and_from, and_parts, cases_lt, eqb-true, false≢true, false_from_ne_true}
+use Rattle.std.proofs.lemmas.Bool.{and_from, and_parts, cases_lt, eqb-true, false≢true}
 use Rattle.std.proofs.lemmas.Bool.Decides.{nat_tests}
 use Rattle.std.proofs.lemmas.List.Elements.{filter-append}
 use Rattle.std.proofs.lemmas.Cmp.{tied_itself}
@@ -16,9 +16,9 @@ use Rattle.ck_model.specs.declared.key.Key.{Key}
 use Rattle.ck_model.specs.Key.{key_cmp, key_cmp_total}
 use Rattle.ck_model.specs.World.{keeps_files}
 use Rattle.ck_model.specs.Table.{Table, Filesets, IsTable, column, newer}
-use Rattle.ck_model.specs.Chain.{as_mark, is_covered, is_live, is_live_data, keeps_data, newest_live_of}
+use Rattle.ck_model.specs.Chain.{is_covered, is_live, is_live_data, keeps_data, newest_live_of}
 use Rattle.ck_model.specs.Rules.{IsOrderly, IsSound}
-use Rattle.ck_model.proofs.CaseLaws.{and_left, and_right, none_some, not_true, some_same, true_or_false}
+use Rattle.ck_model.proofs.CaseLaws.{and_left, and_right, none_some, not_true, true_or_false}
 use Rattle.ck_chain.specs.Changes.{key_of, value_after}
 use Rattle.ck_chain.specs.Kept.{pushed}
 use Rattle.ck_chain.specs.Order.{is_behind}

@@ -3,8 +3,8 @@ use Rattle.std.proofs.Common.{◌≡◌, ℕ, suc, zero, true, false, not, ◌&&
 use Rattle.std.specs.Option.{option_map_or}
 use Rattle.std.specs.FinMap as map
 use Rattle.ck_model.specs.declared.checkpoint.Fileset.{Fileset}
-use Rattle.ck_model.specs.World.{World, Mounts, without_checkpoint}
-use Rattle.ck_model.specs.Space.{pick, without_picks}
+use Rattle.ck_model.specs.World.{Mounts, without_checkpoint}
+use Rattle.ck_model.specs.Space.{without_picks}
 use Rattle.ck_model.specs.Table.{Table, IsTable}
 use Rattle.ck_model.specs.Chain.{is_live}
 use Rattle.ck_model.specs.Values.{Store}

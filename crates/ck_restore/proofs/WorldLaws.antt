@@ -1,5 +1,5 @@
 -- The table after a restore stands for the restored world.
-use Rattle.std.proofs.Common.{◌≡◌, ℕ, ◌<◌, ◌≤◌, Bool, true, false, cond, not, ◌&&◌, T, List, [], ◌∷◌, map as list_map, filter, take_while, Some, None, Ok, Err, IsSome, Result, is_some, Option, nat_eq, nat_lt, refl, sym, ap, subst, ◌∙◌, arith}
+use Rattle.std.proofs.Common.{◌≡◌, ℕ, ◌<◌, Bool, true, false, cond, not, ◌&&◌, T, List, [], ◌∷◌, map as list_map, filter, take_while, Some, None, Ok, Err, IsSome, Result, is_some, Option, nat_eq, nat_lt, refl, sym, ap, subst, ◌∙◌, arith}
 use Rattle.std.specs.Ordering.{nat_cmp, eq_by_cmp}
 use Rattle.std.specs.Option.{option_map_or}
 use Rattle.std.specs.FinMap.{is_sorted, entries_sorted, nat_cmp-IsAntisymmetric, find as found}
@@ -16,7 +16,7 @@ use Rattle.ck_model.specs.declared.checkpoint.Kind.{Kind}
 use Rattle.ck_model.specs.declared.checkpoint.Kind.TheVariants.{Keeping, Nodata}
 use Rattle.ck_model.specs.declared.reply.Reply.{Reply}
 use Rattle.ck_model.specs.declared.reply.Reply.TheVariants.{NoCkpt, NotData}
-use Rattle.ck_model.specs.CheckpointCalls.{checkpoint_named, older_than, restored}
+use Rattle.ck_model.specs.CheckpointCalls.{older_than, restored}
 use Rattle.ck_model.specs.Limits.{checkpoint_limit}
 use Rattle.ck_model.specs.Refusals.{and_then, refuse_if}
 use Rattle.ck_model.specs.World.{World, Checkpoint, Mounts, is_named, keeps_files, shown_by}

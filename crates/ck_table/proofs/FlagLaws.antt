@@ -1,5 +1,5 @@
 -- A table in which a checkpoint's record changes, but neither its name nor whether it is gone.
-use Rattle.std.proofs.Common.{◌≡◌, ◌≢◌, ℕ, Bool, true, false, cond, not, ◌&&◌, ◌||◌, List, length, filter, Some, None, IsSome, IsSomeAnd, is_some, nat_lt, nat_le, nat_eq, refl, sym, ap, subst, ◌∙◌, ◌+◌, ◌<◌, ◌^◌, ◌∷◌, arith}
+use Rattle.std.proofs.Common.{◌≡◌, ◌≢◌, ℕ, Bool, true, false, cond, not, ◌&&◌, length, filter, Some, None, IsSome, IsSomeAnd, is_some, nat_lt, nat_le, nat_eq, refl, sym, ap, subst, ◌∙◌, ◌+◌, ◌<◌, ◌^◌, ◌∷◌, arith}
 use Rattle.std.specs.List.{list_any}
 use Rattle.std.specs.Option.{option_map, option_map_or}
 use Rattle.std.proofs.lemmas.Cmp.{nat_cmp_total}

@@ -7,7 +7,7 @@ use Rattle.std.proofs.lemmas.Bool.{eqb-true}
 use Rattle.std.proofs.lemmas.Bool.Decides.{nat_tests}
 use Rattle.ck_model.specs.declared.checkpoint.Fileset.{Fileset}
 use Rattle.ck_model.specs.World.{keeps_files}
-use Rattle.ck_model.specs.Table.{Table, newer}
+use Rattle.ck_model.specs.Table.{Table}
 use Rattle.ck_model.specs.Chain.{is_live, is_live_data, keeps_data}
 use Rattle.ck_table.specs.Flags.{as_nodata, with_nodata, with_record}
 use Rattle.ck_table.specs.Gone.{as_gone, with_gone}

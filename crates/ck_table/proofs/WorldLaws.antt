@@ -5,7 +5,7 @@ use Rattle.std.specs.Ordering.{nat_cmp, is_lt, is_eq, eq_by_cmp}
 use Rattle.std.specs.Cmp.Lexicographic.{pointwise, bytes_decides}
 use Rattle.std.specs.List.{list_any}
 use Rattle.std.specs.Option.{ok_or, option_map, option_map_or, option_and_then}
-use Rattle.std.specs.FinMap.{find as found, put, is_sorted, entries_sorted, nat_cmp-IsAntisymmetric}
+use Rattle.std.specs.FinMap.{find as found, put, is_sorted, entries_sorted}
 use Rattle.std.specs.FinMap.Entries.{by_order, below_all, length-put}
 use Rattle.std.specs.FinMap as map
 use Rattle.std.proofs.lemmas.Bool.{false≢true, false_from_ne_true, and_parts}
@@ -14,19 +14,18 @@ use Rattle.std.proofs.lemmas.Cmp.{nat_cmp_total}
 use Rattle.std.proofs.lemmas.List.Sums.{take_while-cons}
 use Rattle.ck_model.specs.declared.key.Key.{Key}
 use Rattle.ck_model.specs.declared.checkpoint.Fileset.{Fileset}
-use Rattle.ck_model.specs.declared.checkpoint.Kind.{Kind}
 use Rattle.ck_model.specs.declared.checkpoint.Kind.TheVariants.{Keeping, Nodata}
 use Rattle.ck_model.specs.declared.reply.Reply.{Reply}
 use Rattle.ck_model.specs.declared.reply.Reply.TheVariants.{Done, Delayed, NoCkpt}
 use Rattle.ck_model.specs.Cells.{marked}
-use Rattle.ck_model.specs.CheckpointCalls.{any_keeps, as_nodata, checkpoint_named, dropped, older_than, with_changed, with_flag}
+use Rattle.ck_model.specs.CheckpointCalls.{any_keeps, as_nodata, checkpoint_named, older_than, with_changed, with_flag}
 use Rattle.ck_model.specs.Refusals.{and_then}
 use Rattle.ck_model.specs.Step.{converted, outcome_of, told}
 use Rattle.ck_model.specs.World.{World, Checkpoint, Mounts, has_id, is_named, keeps_files, shown_by, without_checkpoint}
-use Rattle.ck_model.specs.Table.{Table, IsTable, column, newer, with_fileset}
+use Rattle.ck_model.specs.Table.{Table, IsTable, with_fileset}
 use Rattle.ck_model.specs.Chain.{is_live, is_live_data, keeps_data, present, value_at, value_of}
 use Rattle.ck_model.specs.Placed.{ArePlaced}
-use Rattle.ck_model.specs.Rules.{IsOrderly, IsSound}
+use Rattle.ck_model.specs.Rules.{IsSound}
 use Rattle.ck_model.specs.Values.{Store, cells_on}
 use Rattle.ck_model.specs.TableWorld.{checkpoint_on, checkpoints_on, keys_of, valued, values_of, world_on}
 use Rattle.ck_model.proofs.CaseLaws.{head_of, some_same}
@@ -36,7 +35,6 @@ use Rattle.ck_table.specs.Flags as flags
 use Rattle.ck_table.specs.Flags.{as_removable, with_nodata, with_record, with_removable}
 use Rattle.ck_table.specs.Gone.{as_gone, with_gone}
 use Rattle.ck_table.specs.Names as names
-use Rattle.ck_table.proofs.IdLaws.{get-recorded}
 use Rattle.ck_table.proofs.KeepsLaws.{data-with_nodata}
 use Rattle.ck_table.proofs.FlagLaws.{StaysOne, newer-with_nodata, stays_nodata, stays_removable, value-with_nodata, value-with_removable}
 use Rattle.ck_table.proofs.LeaveLaws.{stands_live, value-with_gone}
@@ -288,7 +286,7 @@ module _ (store : Store) (t : Table) (sound : IsSound t) (name : List ℕ) (id :
             let within : nat_le e.0 id ≡ true = grind (arith, nat_tests) in
             let rest = older_keeps es placed.1 parts.1 further in
             let own : keeps_upto e.0 ≡ ((not e.1.gone && keeps_files e.1.kind) && true) =
-                (λ i. within i && (data-with_nodata t id e.0 ∙ (λ j. option_map_or (λ (f : Fileset). not f.gone && keeps_files f.kind) (stands j) false && not (apart j))) i) in
+            (λ i. within i && (data-with_nodata t id e.0 ∙ (λ j. option_map_or (λ (f : Fileset). not f.gone && keeps_files f.kind) (stands j) false && not (apart j))) i) in
             (λ i. own i || rest i)
             ∙ elim e.1.gone as (λ b. e.1.gone ≡ b → (((not b && keeps_files e.1.kind) && true) || any_keeps (older_of (shown_of es)))
             ≡ any_keeps (older_of (list_map (λ (x : ℕ × Fileset). checkpoint_on store t x.0 x.1) (cond (not b) (e ∷ left) left)))) [
