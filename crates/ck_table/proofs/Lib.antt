@@ -8,3 +8,4 @@ pub mod FlagLaws
 pub mod KeepsLaws
 pub mod ShownLaws
 pub mod WorldLaws
+pub mod AddedLaws

@@ -1,5 +1,5 @@
 -- What a checkpoint shows of a map, where its reader sees the same in another table.
-use Rattle.std.proofs.Common.{◌≡◌, ℕ, ◌≤◌, true, false, cond, Option, Some, None, IfSome, List, [], ◌∷◌, if◌then◌else◌, not, ◌&&◌, nat_eq, refl, sym, ap, ◌∙◌, arith}
+use Rattle.std.proofs.Common.{◌≡◌, ℕ, ◌≤◌, true, false, cond, Option, Some, None, IfSome, List, [], ◌∷◌, if◌then◌else◌, not, ◌&&◌, nat_eq, refl, sym, ap, ◌∙◌, arith, map as list_map, filter}
 use Rattle.std.specs.Option.{option_map, option_map_or, option_or}
 use Rattle.std.specs.FinMap as map
 use Rattle.std.proofs.lemmas.Bool.{and_from}
@@ -15,11 +15,13 @@ use Rattle.ck_model.specs.Held.{IsEntry}
 use Rattle.ck_model.specs.Key.{key_cmp_exact, key_cmp_total}
 use Rattle.ck_model.specs.Cells.{mark_of, marked}
 use Rattle.ck_model.specs.World.{keeps_files, shown_by}
-use Rattle.ck_model.specs.Table.{Table, IsTable, column, newer}
-use Rattle.ck_model.specs.Chain.{as_mark, first_entry, is_live_data, keeps_data, present, seen, value_at, value_of}
+use Rattle.ck_model.specs.Table.{Table, Filesets, IsTable, column, newer}
+use Rattle.ck_model.specs.Chain.{as_mark, first_entry, is_live, is_live_data, keeps_data, present, seen, value_at, value_of}
 use Rattle.ck_model.specs.Values.{Store, cell_on, cells_on}
-use Rattle.ck_model.specs.TableWorld.{values_of}
+use Rattle.ck_model.specs.Placed.{ArePlaced}
+use Rattle.ck_model.specs.TableWorld.{checkpoint_on, checkpoints_on, values_of}
 use Rattle.ck_model.proofs.CellLaws.{get-marked}
+use Rattle.ck_model.proofs.CountLaws.{all_placed}
 use Rattle.ck_model.proofs.ValueLaws.{get-cells_on, get-values_of}
 use Rattle.ck_table.proofs.LeaveLaws.{own_data, read}
 
@@ -120,3 +122,33 @@ module _ (old new : Table) (lawful : IsTable old) (after : IsTable new) (id : �
         | Keeping ↦ λ keeping. same_cells store old new id id (λ q. value_at_some new id q some ∙ values_seen (ap keeps_files keeping) q ∙ sym (value_at_some old id q some))
         | Nodata ↦ λ _. marks_seen store
       ] refl
+
+-- ---- all that stand in both
+
+module _ (old new : Table) (lawful : IsTable old) (after : IsTable new)
+    (still : (id : ℕ) (fileset : Fileset) → map.get old.filesets id ≡ Some fileset → fileset.gone ≡ false → map.get new.filesets id ≡ Some fileset)
+    (kept : (fs : ℕ) (q : Key) → is_live old fs ≡ true → seen new fs q ≡ seen old fs q) where
+  same_on : (store : Store) (e : ℕ × Fileset) → map.get old.filesets e.0 ≡ Some e.1 → e.1.gone ≡ false → checkpoint_on store new e.0 e.1 ≡ checkpoint_on store old e.0 e.1
+  same_on store e there live =
+      let stands : is_live old e.0 ≡ true = ap (λ o. option_map_or (λ (f : Fileset). not f.gone) o false) there ∙ ap not live in
+      let cells = shown_seen old new lawful after e.0 e.1 there (still e.0 e.1 there live) live (λ q. kept e.0 q stands) store in
+      λ i. record { id = e.0; name = e.1.name; kind = e.1.kind; removable = e.1.removable; ctime = e.1.ctime; cells = cells i }
+
+  -- the checkpoints of the old table show in the new one what they showed
+  pub shown_all : (store : Store) (es : List (ℕ × Fileset)) → ArePlaced old es
+      → list_map (λ e. checkpoint_on store new e.0 e.1) (filter (λ (e : ℕ × Fileset). not e.1.gone) es) ≡ list_map (λ (e : ℕ × Fileset). checkpoint_on store old e.0 e.1) (filter (λ (e : ℕ × Fileset). not e.1.gone) es)
+  shown_all store [] placed = refl
+  shown_all store (e ∷ es) placed =
+      let rest = shown_all store es placed.1 in
+      let left = filter (λ (x : ℕ × Fileset). not x.1.gone) es in
+      elim e.1.gone as (λ b. e.1.gone ≡ b → list_map (λ (x : ℕ × Fileset). checkpoint_on store new x.0 x.1) (cond (not b) (e ∷ left) left) ≡ list_map (λ (x : ℕ × Fileset). checkpoint_on store old x.0 x.1) (cond (not b) (e ∷ left) left)) [
+        | true ↦ λ _. rest
+        | false ↦ λ live. (λ i. same_on store e placed.0.stands live i ∷ rest i)
+      ] refl
+
+-- tables with the same records, whose readers see the same, have the same checkpoints in their worlds
+pub checkpoints_seen : (store : Store) (old new : Table) → IsTable old → IsTable new → new.filesets ≡ old.filesets → ((fs : ℕ) (q : Key) → is_live old fs ≡ true → seen new fs q ≡ seen old fs q)
+    → checkpoints_on store new ≡ checkpoints_on store old
+checkpoints_seen store old new lawful after same kept =
+    ap (λ (m : Filesets). list_map (λ e. checkpoint_on store new e.0 e.1) (filter (λ (e : ℕ × Fileset). not e.1.gone) (map.entries m))) same
+    ∙ shown_all old new lawful after (λ id f there _. ap (λ (m : Filesets). map.get m id) same ∙ there) kept store (map.entries old.filesets) (all_placed old lawful)
