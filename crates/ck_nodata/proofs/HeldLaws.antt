@@ -1,5 +1,5 @@
 -- How many data blocks and records a table takes, and its world.
-use Rattle.std.proofs.Common.{◌≡◌, ℕ, zero, suc, ◌≤◌, true, false, cond, inl, inr, Option, Some, None, is_some, IsSome, IfSome, nat_eq, refl, sym, ap, subst, ◌∙◌, arith}
+use Rattle.std.proofs.Common.{◌≡◌, ℕ, zero, suc, ◌≤◌, Bool, true, false, cond, ◌&&◌, inl, inr, Option, Some, None, is_some, IsSome, IfSome, nat_eq, refl, sym, ap, subst, ◌∙◌, arith}
 use Rattle.std.specs.FinMap as map
 use Rattle.std.proofs.lemmas.Bool.{eqb-true, false≢true}
 use Rattle.ck_model.specs.declared.checkpoint.Fileset.{Fileset}
@@ -17,6 +17,7 @@ use Rattle.ck_model.specs.World.{Mounts}
 use Rattle.ck_model.specs.Chain.{as_mark}
 use Rattle.ck_model.proofs.CaseLaws.{and_right, some_is, some_same, true_or_false}
 use Rattle.ck_model.proofs.CountLaws.{extents_are, records_are}
+use Rattle.ck_model.proofs.SizeLaws.{contains_key-retain_keys, len-retain_keys-le, len_same_keys}
 use Rattle.ck_chain.proofs.ColumnLaws.{column-with_entry, column-with_entry_other, same_or_other}
 use Rattle.ck_chain.proofs.PushedLaws.{entry_pushed}
 use Rattle.ck_remove.specs.Unseen.{IsUnseen}
@@ -24,6 +25,7 @@ use Rattle.ck_remove.proofs.DrainLaws.{drained, unseen_both, unseen_itself}
 use Rattle.ck_remove.proofs.WorldLaws.{unseen_world}
 use Rattle.ck_nodata.specs.StripItem.{drops_data, is_extent, is_unstripped, strip_work_of, unstripped_count}
 use Rattle.ck_nodata.proofs.CountLemmas.{get-unstripped, unstripped}
+use Rattle.ck_nodata.proofs.PlaceLaws.{LeftBefore}
 use Rattle.ck_nodata.proofs.StripLemmas.{strip_is}
 use Rattle.ck_nodata.proofs.WorkLemmas.{all_stripped, extent_stands, none_left, work_is}
 
@@ -41,6 +43,28 @@ zero_where_none t none =
     let same : unstripped t ≡ map.empty = map.same_map entry_cmp_total entry_cmp_exact (unstripped t) map.empty (λ e.
     get-unstripped t e ∙ ap (λ b. cond b (map.get t.entries e) None) (none e.0 e.1) ∙ sym (map.get-empty entry_cmp e)) in
     ap (λ (m : Entries). map.len m) same ∙ map.len-empty entry_cmp Held
+
+has_unstripped : (t : Table) (e : ℕ × Key) → map.contains_key (unstripped t) e ≡ is_unstripped t e.0 e.1
+has_unstripped t e =
+    ap is_some (get-unstripped t e)
+    ∙ elim (is_unstripped t e.0 e.1) as (λ b. is_unstripped t e.0 e.1 ≡ b → is_some (cond b (column t e.1 e.0) None) ≡ b) [
+      | true ↦ λ left. extent_stands (column t e.1 e.0) (and_right (drops_data t e.0) (is_extent (column t e.1 e.0)) left)
+      | false ↦ λ _. refl
+    ] refl
+
+-- where whatever is left was left before, no more is left
+pub no_more_left : (old new : Table) → LeftBefore old new → unstripped_count new ≤ unstripped_count old
+no_more_left old new before =
+    let p : ℕ × Key → Bool = λ e. is_unstripped new e.0 e.1 in
+    let same : map.len (unstripped new) ≡ map.len (map.retain_keys (unstripped old) p) = len_same_keys entry_cmp_total entry_cmp_exact (unstripped new) (map.retain_keys (unstripped old) p) (λ e.
+    has_unstripped new e
+    ∙ elim (is_unstripped new e.0 e.1) as (λ b. is_unstripped new e.0 e.1 ≡ b → b ≡ (b && map.contains_key (unstripped old) e)) [
+      | true ↦ λ left. sym (has_unstripped old e ∙ before e.0 e.1 left)
+      | false ↦ λ _. refl
+    ] refl
+    ∙ sym (contains_key-retain_keys entry_cmp_total entry_cmp_exact (unstripped old) p e)) in
+    let most = len-retain_keys-le entry_cmp_total entry_cmp_exact (unstripped old) p in
+    omega (arith, same, most)
 
 -- where no checkpoint is gone either, the table names as many data blocks as its world takes
 pub held-is : (store : Store) (mounts : Mounts) (t : Table) → IsTable t → IsSound t → NoneGone t → unstripped_count t ≡ 0 → held (world_on store mounts t) ≡ extent_count t

@@ -11,6 +11,7 @@ use Rattle.std.specs.FinMap as map
 use Rattle.std.proofs.lemmas.Bool.{false≢true, false_from_ne_true, and_parts}
 use Rattle.std.proofs.lemmas.Bool.Decides.{nat_tests}
 use Rattle.std.proofs.lemmas.Cmp.{nat_cmp_total}
+use Rattle.std.proofs.lemmas.List.{length-map}
 use Rattle.std.proofs.lemmas.List.Sums.{take_while-cons}
 use Rattle.ck_model.specs.declared.key.Key.{Key}
 use Rattle.ck_model.specs.declared.checkpoint.Fileset.{Fileset}
@@ -18,7 +19,7 @@ use Rattle.ck_model.specs.declared.checkpoint.Kind.TheVariants.{Keeping, Nodata}
 use Rattle.ck_model.specs.declared.reply.Reply.{Reply}
 use Rattle.ck_model.specs.declared.reply.Reply.TheVariants.{Done, Delayed, NoCkpt}
 use Rattle.ck_model.specs.Cells.{marked}
-use Rattle.ck_model.specs.CheckpointCalls.{any_keeps, as_nodata, checkpoint_named, older_than, with_changed, with_flag}
+use Rattle.ck_model.specs.CheckpointCalls.{any_keeps, as_nodata, checkpoint_named, older_than, with_changed, with_flag, dropped}
 use Rattle.ck_model.specs.Refusals.{and_then}
 use Rattle.ck_model.specs.Step.{converted, outcome_of, told}
 use Rattle.ck_model.specs.World.{World, Checkpoint, Mounts, has_id, is_named, keeps_files, shown_by, without_checkpoint}
@@ -28,7 +29,7 @@ use Rattle.ck_model.specs.Placed.{ArePlaced}
 use Rattle.ck_model.specs.Rules.{IsSound}
 use Rattle.ck_model.specs.Values.{Store, cells_on}
 use Rattle.ck_model.specs.TableWorld.{checkpoint_on, checkpoints_on, keys_of, valued, values_of, world_on}
-use Rattle.ck_model.proofs.CaseLaws.{head_of, some_same}
+use Rattle.ck_model.proofs.CaseLaws.{head_of, none_some, not_true, some_same}
 use Rattle.ck_model.proofs.CellLaws.{marked_again}
 use Rattle.ck_model.proofs.CountLaws.{all_placed}
 use Rattle.ck_table.specs.Flags as flags
@@ -47,9 +48,6 @@ set_at id v e = (e.0, cond (nat_eq e.0 id) v e.1)
 
 pub above_head : (x y : ℕ) (b : Bool) → T (is_lt (nat_cmp x y) && b) → (x < y) × T b
 above_head x y b h = grind (arith, nat_tests)
-
-pair_is : (e : ℕ × Fileset) → (e.0, e.1) ≡ e
-pair_is e = refl
 
 -- entries behind the id stay
 set_behind : (id : ℕ) (v : Fileset) (es : List (ℕ × Fileset)) → T (below_all nat_cmp id es) → list_map (set_at id v) es ≡ es
@@ -437,3 +435,58 @@ world-with_gone store mounts t id live =
       | None ↦ λ _ h. absurd (false≢true h)
       | Some f ↦ λ is _ same. world_left store t id f is same mounts
     ] refl (stands_live t id live) (value-with_gone t id live)
+
+-- `remove`
+module _ (store : Store) (mounts : Mounts) (t : Table) (lawful : IsTable t) (name : List ℕ) where
+  pub dropped-none : names.id_named t name ≡ None → dropped (world_on store mounts t) name ≡ Err NoCkpt
+  dropped-none none = ap (λ r. and_then r (λ (checkpoint : Checkpoint). Ok (without_checkpoint (world_on store mounts t) checkpoint.id))) (named-none store mounts t lawful name none)
+
+  pub dropped-is : (id : ℕ) → names.id_named t name ≡ Some id → names.is_named t name id ≡ true → dropped (world_on store mounts t) name ≡ Ok (world_on store mounts (with_gone t id))
+  dropped-is id is named =
+      at_named store mounts t lawful name id is named (λ r. and_then r (λ (checkpoint : Checkpoint). Ok (without_checkpoint (world_on store mounts t) checkpoint.id)) ≡ Ok (world_on store mounts (with_gone t id))) (λ f there.
+      ap (λ (v : World). Ok v) (sym (world-with_gone store mounts t id (named_live t name id named))))
+
+-- ---- one fewer stands
+
+length_left : (id : ℕ) (f : Fileset) → f.gone ≡ false → (es : List (ℕ × Fileset)) → T (is_sorted nat_cmp es) → found nat_cmp id es ≡ Some f
+    → length (filter (λ (e : ℕ × Fileset). not e.1.gone) es) ≡ length (filter (λ (e : ℕ × Fileset). not e.1.gone) (list_map (set_at id (as_gone f)) es)) + 1
+length_left id f live [] sorted there = absurd (none_some f there)
+length_left id f live (e ∷ es) sorted there =
+    let parts = head_of (below_all nat_cmp e.0 es) (is_sorted nat_cmp es) sorted in
+    let left = filter (λ (x : ℕ × Fileset). not x.1.gone) es in
+    let marked = filter (λ (x : ℕ × Fileset). not x.1.gone) (list_map (set_at id (as_gone f)) es) in
+    elim (nat_eq e.0 id) as (λ b. nat_eq e.0 id ≡ b → length (filter (λ (x : ℕ × Fileset). not x.1.gone) (e ∷ es)) ≡ length (cond (not (cond b (as_gone f) e.1).gone) ((e.0, cond b (as_gone f) e.1) ∷ marked) marked) + 1) [
+      | true ↦ λ same.
+          let tied : eq_by_cmp nat_cmp id e.0 ≡ true = grind (arith, nat_tests) in
+          let at : e.0 ≡ id = grind (arith, nat_tests) in
+          let one : e.1 ≡ f = some_same e.1 f (sym (ap (λ b. cond b (Some e.1) (found nat_cmp id es)) tied) ∙ there) in
+          let behind = set_behind id (as_gone f) es (subst (λ x. T (below_all nat_cmp x es)) at parts.0) in
+          let more : length (e ∷ left) ≡ length left + 1 = omega arith in
+          ap (λ b. length (cond (not b) (e ∷ left) left)) (ap (λ (x : Fileset). x.gone) one ∙ live)
+          ∙ more
+          ∙ sym (ap (λ (xs : List (ℕ × Fileset)). length (filter (λ (x : ℕ × Fileset). not x.1.gone) xs) + 1) behind)
+      | false ↦ λ apart.
+          let untied : eq_by_cmp nat_cmp id e.0 ≡ false = grind (arith, nat_tests) in
+          let rest = length_left id f live es parts.1 (sym (ap (λ b. cond b (Some e.1) (found nat_cmp id es)) untied) ∙ there) in
+          elim e.1.gone as (λ b. length (cond (not b) (e ∷ left) left) ≡ length (cond (not b) ((e.0, e.1) ∷ marked) marked) + 1) [
+            | true ↦ rest
+            | false ↦ omega (arith, rest)
+          ]
+    ] refl
+
+length_shown : (store : Store) (t : Table) (es : List (ℕ × Fileset)) → length (list_map (λ e. checkpoint_on store t e.0 e.1) es) ≡ length es
+length_shown store t es = length-map es (λ e. checkpoint_on store t e.0 e.1)
+
+-- the world has one checkpoint fewer once one is gone
+pub length-with_gone : (store : Store) (t : Table) (id : ℕ) → is_live t id ≡ true → length (checkpoints_on store t) ≡ length (checkpoints_on store (with_gone t id)) + 1
+length-with_gone store t id live =
+    elim (map.get t.filesets id) as (λ o. map.get t.filesets id ≡ o → option_map_or (λ (g : Fileset). not g.gone) o false ≡ true → length (checkpoints_on store t) ≡ length (checkpoints_on store (with_fileset t id (option_map as_gone o))) + 1) [
+      | None ↦ λ _ h. absurd (false≢true h)
+      | Some f ↦ λ is stands.
+          let u = with_fileset t id (Some (as_gone f)) in
+          let es = map.entries t.filesets in
+          let fewer = length_left id f (not_true f.gone stands) es (entries_sorted t.filesets) (sym (map.get-entries t.filesets id) ∙ is) in
+          length_shown store t (filter (λ (e : ℕ × Fileset). not e.1.gone) es) ∙ fewer
+          ∙ ap (λ n. n + 1) (sym (ap (λ (xs : List (ℕ × Fileset)). length (list_map (λ e. checkpoint_on store u e.0 e.1) (filter (λ (e : ℕ × Fileset). not e.1.gone) xs))) (entries_over t id (as_gone f) (ap is_some is))
+          ∙ length_shown store u (filter (λ (e : ℕ × Fileset). not e.1.gone) (list_map (set_at id (as_gone f)) es))))
+    ] refl live
