@@ -94,10 +94,10 @@ room-next store mounts t lawful id picked effect new reply full =
     let long : length w.checkpoints ≡ suc most = let fewer = length-with_gone store t id live in omega (arith, fewer) in
     let same : without_checkpoint w id ≡ v = sym (world-with_gone store mounts t id live) in
     let given : given_up (length w.checkpoints) effect new w ≡ given_up most effect new v + 1 =
-        ap (λ n. given_up n effect new w) long
-        ∙ ap (λ b. if b then 0 else option_map_or (λ x. given_up most effect new (without_checkpoint w x) + 1) (pick w) 0) full
-        ∙ ap (λ o. option_map_or (λ x. given_up most effect new (without_checkpoint w x) + 1) o 0) (sym (pick-is store mounts t lawful) ∙ picked)
-        ∙ ap (λ x. given_up most effect new x + 1) same in
+    ap (λ n. given_up n effect new w) long
+    ∙ ap (λ b. if b then 0 else option_map_or (λ x. given_up most effect new (without_checkpoint w x) + 1) (pick w) 0) full
+    ∙ ap (λ o. option_map_or (λ x. given_up most effect new (without_checkpoint w x) + 1) o 0) (sym (pick-is store mounts t lawful) ∙ picked)
+    ∙ ap (λ x. given_up most effect new x + 1) same in
     ap (given_outcome w effect new reply) given
     ∙ next (given_up most effect new v)
   where
