@@ -5,6 +5,7 @@ pub mod AttemptLemmas
 pub mod ReadLemmas
 pub mod OpenLemmas
 pub mod KeptLaws
+pub mod RecoveryLaws
 pub mod FormatLemmas
 pub mod WholeLaws
 pub mod LeavesLaws
