@@ -1,5 +1,6 @@
 pub mod Counts
 pub mod Turns
+pub mod Walk
 pub mod Turned
 pub mod Place
 pub mod Actor
