@@ -1,5 +1,5 @@
 -- The calls that are left behind the listed turns, one after another.
-use Rattle.std.proofs.Common.{◌≡◌, ◌≤◌, ◌<◌, ◌⊎◌, inl, inr, ℕ, ◌+◌, true, false, cond, List, [], ◌∷◌, ◌++◌, filter, map as list_map, length, take, get_or, nat_eq, nat_lt, if◌then◌else◌, refl, sym, ap, subst, ◌∙◌, arith, append_assoc, length-append}
+use Rattle.std.proofs.Common.{◌≡◌, ◌≤◌, ◌<◌, ◌⊎◌, inl, inr, ℕ, ◌+◌, Bool, true, false, cond, List, [], ◌∷◌, ◌++◌, filter, map as list_map, length, take, get_or, nat_eq, nat_lt, if◌then◌else◌, refl, sym, ap, subst, ◌∙◌, arith, append_assoc, length-append}
 use Rattle.std.specs.List.{AllByRecursion}
 use Rattle.std.proofs.lemmas.Bool.Decides.{nat_tests}
 use Rattle.std.proofs.lemmas.List.{append-nil, take_all, take_more, map-append}
@@ -96,7 +96,7 @@ module _ (lines : List Line) (first : Standings) (counts : TurnCounts) (before :
               | false ↦ filter_last p xs
             ]
 
-    ahead : Line → Bool
+    abbrev ahead : Line → Bool
     ahead l = nat_lt (first l.actor).through l.seq
 
     -- the order with this line's call, or without it

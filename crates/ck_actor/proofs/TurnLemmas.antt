@@ -91,7 +91,7 @@ turned-going count standing less = let is : nat_lt (standing.had + 1) count ≡ 
 turned-gone : (count : ℕ) (standing : Standing) → count ≡ standing.had + 1 → turned count standing ≡ gone_on standing
 turned-gone count standing same = let is : nat_lt (standing.had + 1) count ≡ false = grind (arith, nat_tests) in ap (λ b. if b then going_on standing else gone_on standing) is
 
-same_number : (m n : ℕ) → nat_eq m n ≡ true → m ≡ n
+pub same_number : (m n : ℕ) → nat_eq m n ≡ true → m ≡ n
 same_number m n h = grind (arith, nat_tests)
 
 -- what agrees with the turns behind one more agreed before it

@@ -3,4 +3,5 @@ pub mod Turns
 pub mod Walk
 pub mod Turned
 pub mod Place
+pub mod Completed
 pub mod Actor
