@@ -1,11 +1,9 @@
 ghost use Rattle.std.specs.Prelude.{◌≡◌, ◌+◌, ◌≤◌, false, IsTrue, IfOk, IfErr};
 ghost use Rattle.ck_model.specs.Limits.{file_limit};
-ghost use Rattle.ck_model.specs.World.{World};
 ghost use Rattle.ck_model.specs.ReadCalls.{range_read};
 ghost use Rattle.ck_model.specs.History.{is_fault};
 ghost use Rattle.ck_model.specs.Step.{answered};
-ghost use Rattle.ck_model.specs.TableWorld.{values_of, world_on};
-ghost use Rattle.ck_model.specs.Values.{cells_on};
+ghost use Rattle.ck_model.specs.TableWorld.{world_on};
 ghost use Rattle.ck_data.specs.Device.{store_on};
 ghost use Rattle.ck_files.specs.Plain.{IsOurs};
 ghost use Rattle.ck_files.specs.Room.{answered_with};
@@ -18,35 +16,6 @@ use ck_disk::Disk;
 use ck_model::{Meta, Mounts, Octets, Path, Reply};
 use ck_tree::file_at;
 use std::alloc::Global;
-
-fn range_in<M: Meta, D: Disk>(
-    alloc: Global,
-    meta: &M,
-    disk: &mut D,
-    area: DataArea,
-    fs: u32,
-    path: &Path,
-    at: u64,
-    len: u32,
-) -> Result<Reply, Fault>
-    requires limit { at ≤ file_limit }
-    requires ours { IsOurs (M.table meta.now) }
-    requires blocks { area.blocks ≡ (M.table meta.now).blocks }
-    requires area { area.base + area.blocks ≤ (D.means disk.old).size }
-    ensures reply { IfOk result (λ reply. IsTrue (D.means disk.old).tells → (w : World) →
-        answered w (range_read (cells_on (store_on (D.means disk.old).shows area.base) (values_of (M.table meta.now) fs)) path.now at len) ≡ answered_with reply w) }
-    ensures ordinary { IfOk result (λ reply. is_fault reply ≡ false) }
-    ensures device { OnlyReads (D.means disk.old) (D.means disk.new) }
-    ensures fault { IfErr result (IsReadingFault (D.means disk.old) (D.means disk.new)) }
-{
-    match file_at(meta, fs, path.items()) {
-        Ok(node) => {
-            let bytes = read_range(alloc, disk, area, meta, fs, node, at, len)?;
-            Ok(Reply::Bytes(Octets::of(bytes)))
-        }
-        Err(reply) => Ok(reply),
-    }
-}
 
 /// Reads a file, or says why not.
 pub fn read<M: Meta, D: Disk>(
@@ -71,5 +40,11 @@ pub fn read<M: Meta, D: Disk>(
     ensures device { OnlyReads (D.means disk.old) (D.means disk.new) }
     ensures fault { IfErr result (IsReadingFault (D.means disk.old) (D.means disk.new)) }
 {
-    range_in(alloc, meta, disk, area, 0, path, at, len)
+    match file_at(meta, 0, path.items()) {
+        Ok(node) => {
+            let bytes = read_range(alloc, disk, area, meta, 0, node, at, len)?;
+            Ok(Reply::Bytes(Octets::of(bytes)))
+        }
+        Err(reply) => Ok(reply),
+    }
 }

@@ -2,8 +2,10 @@ pub mod SafeLemmas
 pub mod CommittedLemmas
 pub mod GoesOnLemmas
 pub mod AttemptLemmas
+pub mod ReadLemmas
 pub mod OpenLemmas
 pub mod KeptLaws
+pub mod RecoveryLaws
 pub mod FormatLemmas
 pub mod WholeLaws
 pub mod LeavesLaws

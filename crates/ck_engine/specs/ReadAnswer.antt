@@ -17,6 +17,18 @@ IfReplied (Ok (More read)) P = ⊤
 IfReplied (Ok (Replied reply)) P = P reply
 IfReplied (Err why) P = ⊤
 
+-- a read that begins
+abbrev pub IfBegun : Result (Result ReadProgress Reply) Fault → (ReadProgress → Type 0) → Type 0
+IfBegun (Ok (Ok read)) P = P read
+IfBegun (Ok (Err reply)) P = ⊤
+IfBegun (Err why) P = ⊤
+
+-- the reply that refuses it
+abbrev pub IfRefused : Result (Result ReadProgress Reply) Fault → (Reply → Type 0) → Type 0
+IfRefused (Ok (Ok read)) P = ⊤
+IfRefused (Ok (Err reply)) P = P reply
+IfRefused (Err why) P = ⊤
+
 -- the bytes that a reply gives
 abbrev pub bytes_in : Reply → Option (List ℕ)
 bytes_in (Bytes bytes) = Some bytes

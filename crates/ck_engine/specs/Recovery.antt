@@ -5,6 +5,8 @@ use Rattle.ck_disk.specs.Disk.{Image}
 use Rattle.ck_log.specs.Layout.{Layout, area_at, base_of}
 use Rattle.ck_log.specs.Header.{Recovered, NotVolume as NoVolume, BadFormat as BadHeader, Opens as OpensAt}
 use Rattle.ck_log.specs.Images.{recovered_region, table_on}
+use Rattle.ck_model.specs.Rules.{IsOrderly}
+use Rattle.ck_model.specs.Table.{Table, IsTable}
 use Rattle.ck_model.specs.World.{World}
 use Rattle.ck_model.specs.TableWorld.{world_on}
 use Rattle.ck_area.specs.Area.{Area, AreSlots, table_of}
@@ -45,3 +47,13 @@ Finds image found = FindsBy (recovered_region image) image found
 -- the image opens to this world
 abbrev pub Recovers : Image → World → Type 0
 Recovers image w = Finds image (Opens w)
+
+-- the header names a layout, and its table obeys the rules and stands for this world, without mounts
+pub record HasTable (image : Image) (w : World) : Type 0 where
+  pub layout : Layout
+  pub table : Table
+  pub region : recovered_region image ≡ OpensAt layout
+  pub is_table : IsTable table
+  pub orderly : IsOrderly table
+  pub blocks : table.blocks ≡ layout.blocks
+  pub world : world_on (store_on image (base_of layout.records)) map.empty table ≡ w

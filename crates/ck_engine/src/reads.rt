@@ -1,15 +1,17 @@
-ghost use Rattle.std.specs.Prelude.{◌≡◌, ◌+◌, ◌×◌, false, IfErr, IfSome, IsTrue};
+ghost use Rattle.std.specs.Prelude.{◌≡◌, ◌≤◌, ◌+◌, ℕ, List, None, false, length, IfErr, IfSome, IsTrue};
 ghost use Rattle.ck_disk.specs.Runs.{OnlyReads};
 ghost use Rattle.ck_model.specs.History.{is_fault};
 ghost use Rattle.ck_model.specs.Limits.{file_limit};
 ghost use Rattle.ck_model.specs.ReadCalls.{checkpoint_read};
 ghost use Rattle.ck_model.specs.Step.{answered};
+ghost use Rattle.ck_model.specs.TableWorld.{world_on};
+ghost use Rattle.ck_model.specs.Values.{Store};
 ghost use Rattle.ck_data.specs.Reads.{IsReadingFault};
 ghost use Rattle.ck_files.specs.Room.{answered_with};
 ghost use Rattle.ck_read.specs.Mounted.{IsReadIn, IsReadNow};
-ghost use Rattle.ck_read.specs.Progress.{had_by, turns_had, turns_of, IsOnWay};
-ghost use Rattle.ck_engine.specs.Engine.{disk_of, table_of, mounts_of, world_of, IsWhole, GoesOn, IsAttempt};
-ghost use Rattle.ck_engine.specs.ReadAnswer.{bytes_in, IfMore, IfReplied};
+ghost use Rattle.ck_read.specs.Progress.{had_by, turns_had, turns_of, IsOnWay, IsUnderWay};
+ghost use Rattle.ck_engine.specs.Engine.{disk_of, table_of, mounts_of, world_of, no_memory, IsWhole, GoesOn, IsAttempt};
+ghost use Rattle.ck_engine.specs.ReadAnswer.{bytes_in, IfBegun, IfMore, IfRefused, IfReplied};
 
 use crate::engine::Engine;
 use ck_data::Fault;
@@ -62,14 +64,13 @@ impl<D: Disk> Engine<D> {
             IfSome begun (IsReadIn w actor letter path.now at len) → IsReadNow w actor letter path.now at len read) }
         ensures fault { IfErr result (IsReadingFault (D.means (disk_of self.old)) (D.means (disk_of self.new))) }
     {
-        let read = match begun {
-            Some(read) => read,
+        match begun {
+            Some(read) => self.read_on(read),
             None => match self.begin_read(alloc, actor, letter, path, at, len)? {
-                Ok(read) => read,
-                Err(reply) => return Ok(ReadAnswer::Replied(reply)),
+                Ok(read) => self.read_on(read),
+                Err(reply) => Ok(ReadAnswer::Replied(reply)),
             },
-        };
-        self.read_on(read)
+        }
     }
 
     /// Begins a read, or gives the reply that refuses it.
@@ -81,20 +82,43 @@ impl<D: Disk> Engine<D> {
         path: &Path,
         at: u64,
         len: u32,
-    ) -> Result<Result<ReadProgress, Reply>, Fault> {
+    ) -> Result<Result<ReadProgress, Reply>, Fault>
+        ensures under_way { IfBegun result IsUnderWay }
+        ensures from { IfBegun result (λ read. read.from ≡ at) }
+        ensures none_had { IfBegun result (λ read. turns_had read ≡ 0) }
+        ensures fits { IfBegun result (λ read. (store : Store) → IsReadNow (world_on store (mounts_of self.now) (table_of self.now)) actor letter path.now at len read) }
+        ensures refused { IfRefused result (λ reply. (store : Store) → let w = world_on store (mounts_of self.now) (table_of self.now) in
+            answered w (checkpoint_read w actor letter path.now at len) ≡ answered_with reply w) }
+        ensures ordinary { IfRefused result (λ reply. is_fault reply ≡ false) }
+        ensures no_bytes { IfRefused result (λ reply. bytes_in reply ≡ None) }
+        ensures fault { IfErr result (λ why. why ≡ no_memory) }
+    {
         let Some(ckpt) = self.mounts.get(actor, letter) else {
             return Ok(Err(Reply::NotMounted));
         };
-        let found = walk(&self.slots, ckpt, path.items());
+        let found = walk(&self.slots, ckpt, path);
         match start(alloc, &self.slots, ckpt, found, at, len) {
             Ok(read) => Ok(Ok(read)),
-            Err(StartFault::NoMemory) => Err(Fault::NoMemory),
+            Err(why) if why == StartFault::NoMemory => Err(Fault::NoMemory),
             Err(why) => Ok(Err(why.reply(ckpt))),
         }
     }
 
     /// Takes one block of a read.
-    fn read_on(&mut self, mut read: ReadProgress) -> Result<ReadAnswer, Fault> {
+    fn read_on(&mut self, mut read: ReadProgress) -> Result<ReadAnswer, Fault>
+        requires whole { IsWhole (D.means (disk_of self.old)) self.old }
+        requires under_way { IsUnderWay read }
+        ensures device { OnlyReads (D.means (disk_of self.old)) (D.means (disk_of self.new)) }
+        ensures others { self.new ≡ record self.old { disk = disk_of self.new } }
+        ensures replied { IfReplied result (λ reply. IsTrue (D.means (disk_of self.old)).tells → let w = world_of (D.means (disk_of self.old)).shows self.old in
+            (actor letter : ℕ) (path : List (List ℕ)) (at len : ℕ) → IsReadIn w actor letter path at len read → answered w (checkpoint_read w actor letter path at len) ≡ answered_with reply w) }
+        ensures ordinary { IfReplied result (λ reply. is_fault reply ≡ false) }
+        ensures last { IfReplied result (λ reply. IfSome (bytes_in reply) (λ bytes. turns_had read + 1 ≡ turns_of read.from (length bytes))) }
+        ensures more { IfMore result (λ later. IsOnWay read.from later × (turns_had later ≡ turns_had read + 1)) }
+        ensures fits { IfMore result (λ later. IsTrue (D.means (disk_of self.old)).tells → let w = world_of (D.means (disk_of self.old)).shows self.old in
+            (actor letter : ℕ) (path : List (List ℕ)) (at len : ℕ) → IsReadIn w actor letter path at len read → IsReadNow w actor letter path at len later) }
+        ensures fault { IfErr result (IsReadingFault (D.means (disk_of self.old)) (D.means (disk_of self.new))) }
+    {
         let base = self.region.base();
         match turn(&self.slots, &mut self.disk, base, &mut read) {
             ReadTurn::More => Ok(ReadAnswer::More(read)),

@@ -18,13 +18,13 @@ use Rattle.ck_model.specs.declared.held.Held.{Held}
 use Rattle.ck_model.specs.declared.held.Held.TheVariants.{Absent, Plain, Extent, Mark}
 use Rattle.ck_model.specs.declared.held.Small.TheVariants.{To, File, Dir}
 use Rattle.ck_model.specs.Cells.{Cells, differs, marked, OfOneHistory}
-use Rattle.ck_model.specs.Table.{Table, column, newer}
+use Rattle.ck_model.specs.Table.{Table, IsTable, column, newer}
 use Rattle.ck_model.specs.Chain.{first_entry, present, value_at}
 use Rattle.ck_model.specs.Rules.{IsOrderly, HeldBelow, stamp_in, block_in}
 use Rattle.ck_model.specs.Values.{Store, cell_on, cells_on}
 use Rattle.ck_model.specs.World.{Checkpoint, shown_by}
 use Rattle.ck_model.specs.TableWorld.{values_of, checkpoint_on, live_filesets}
-use Rattle.ck_laws.specs.Laws.{IdsRise, StampsBelow, ContentBelow, NumbersBelow, IsWhole, HasBlocks, StoresBlocks, Agree, EachTwo, TablesStand}
+use Rattle.ck_laws.specs.Laws.{IdsRise, StampsBelow, ContentBelow, NumbersBelow, IsWhole, HasBlocks, StoresBlocks, Agree, EachTwo, TablesAreOrdered, TablesStand}
 use Rattle.ck_model.proofs.ValueLaws.{get-values_of, get-cells_on}
 use Rattle.ck_model.proofs.FilesetLaws.{all_found}
 use Rattle.ck_laws.proofs.WorldLemmas.{shown_again}
@@ -217,15 +217,36 @@ module _ (store : Store) (t : Table) (rules : IsOrderly t) where
         | false ↦ λ stands. (names_behind e es (e.0 + 1) (omega arith) there.0 stands rising.1 there.1, rest)
       ] refl
 
+-- ---- the filesets of a table
+
+module _ (t : Table) (table : IsTable t) where
+  abbrev es : List (ℕ × Fileset)
+  es = map.entries t.filesets
+
+  there : AllByRecursion (λ e. map.get t.filesets e.0 ≡ Some e.1) (map.entries t.filesets)
+  there = all_found nat_cmp_total nat_cmp-IsAntisymmetric (λ e. map.get t.filesets e.0 ≡ Some e.1) (map.entries t.filesets) (entries_sorted t.filesets) (λ k v found. map.get-entries t.filesets k ∙ found)
+
+  rising_all : (xs : List (ℕ × Fileset)) → T (is_sorted nat_cmp xs) → AllByRecursion (λ e. map.get t.filesets e.0 ≡ Some e.1) xs → Rising 1 xs
+  rising_all [] sorted h = tt
+  rising_all (e ∷ xs) sorted h =
+      let parts = parts_of (below_all nat_cmp e.0 xs) (is_sorted nat_cmp xs) sorted in
+      ((table.filesets e.0 e.1 h.0).some, rising_behind e.0 xs parts.0 parts.1)
+
+  rising : Rising 1 (map.entries t.filesets)
+  rising = rising_all (map.entries t.filesets) (entries_sorted t.filesets) there
+
 -- ---- the world
+
+pub tables_are_ordered_lem : TablesAreOrdered
+tables_are_ordered_lem store mounts t table rules = record {
+  ids = ids_rise store t rules (es t table) 1 table.counters.some_id (rising t table) (there t table);
+  marks = each_made (λ c. shown_by c.kind c.cells ≡ c.cells) (made_on store t rules) (λ e. shown_again e.1.kind (map_of store t e.0)) (live_filesets t);
+}
 
 pub tables_stand_lem : TablesStand
 tables_stand_lem store mounts t table rules stores = record {
-  order = record {
-    ids = ids_rise store t rules es 1 table.counters.some_id rising there;
-    marks = each_made (λ c. shown_by c.kind c.cells ≡ c.cells) (made_on store t rules) (λ e. shown_again e.1.kind (map_of store t e.0)) (live_filesets t);
-  };
-  names = names_differ store t rules es 1 rising there;
+  order = tables_are_ordered_lem store mounts t table rules;
+  names = names_differ store t rules (es t table) 1 (rising t table) (there t table);
   stamps = map_stamps store t rules 0;
   frozen_stamps = each_made (λ c. StampsBelow t.counters.stamp c.cells) (made_on store t rules) (λ e. StampsBelow-shown t.counters.stamp e.1.kind (map_of store t e.0) (map_stamps store t rules e.0)) (live_filesets t);
   numbers = map_numbers store t rules 0;
@@ -235,18 +256,3 @@ tables_stand_lem store mounts t table rules stores = record {
   versions = each_made (Agree Keeping (map_of store t 0)) (made_on store t rules) (λ e. shown_agree store t rules (map_of store t 0) (map_of store t e.0) Keeping e.1.kind (maps_agree store t rules 0 e.0)) (live_filesets t);
   frozen_versions = each_two_made (λ older newer. Agree older.kind older.cells newer) (made_on store t rules) (λ e x. shown_agree store t rules (map_of store t e.0) (map_of store t x.0) e.1.kind x.1.kind (maps_agree store t rules e.0 x.0)) (live_filesets t);
 }
-  where
-    es : List (ℕ × Fileset)
-    es = map.entries t.filesets
-
-    there : AllByRecursion (λ e. map.get t.filesets e.0 ≡ Some e.1) (map.entries t.filesets)
-    there = all_found nat_cmp_total nat_cmp-IsAntisymmetric (λ e. map.get t.filesets e.0 ≡ Some e.1) (map.entries t.filesets) (entries_sorted t.filesets) (λ k v found. map.get-entries t.filesets k ∙ found)
-
-    rising_all : (xs : List (ℕ × Fileset)) → T (is_sorted nat_cmp xs) → AllByRecursion (λ e. map.get t.filesets e.0 ≡ Some e.1) xs → Rising 1 xs
-    rising_all [] sorted h = tt
-    rising_all (e ∷ xs) sorted h =
-        let parts = parts_of (below_all nat_cmp e.0 xs) (is_sorted nat_cmp xs) sorted in
-        ((table.filesets e.0 e.1 h.0).some, rising_behind e.0 xs parts.0 parts.1)
-
-    rising : Rising 1 (map.entries t.filesets)
-    rising = rising_all (map.entries t.filesets) (entries_sorted t.filesets) there

@@ -98,6 +98,10 @@ abbrev pub TablesStand : Type 0
 TablesStand =
     (store : Store) (mounts : Mounts) (t : Table) → IsTable t → IsOrderly t → StoresBlocks t.blocks store → IsWorld (world_on store mounts t)
 
+-- whose checkpoints stand in order, however long the blocks are
+abbrev pub TablesAreOrdered : Type 0
+TablesAreOrdered = (store : Store) (mounts : Mounts) (t : Table) → IsTable t → IsOrderly t → IsOrdered (world_on store mounts t)
+
 -- every call leaves one
 abbrev pub CallsKeepWorlds : Type 0
 CallsKeepWorlds = (texts : Texts) (w : World) (actor at : ℕ) (call : Call) → IsWorld w → IsWorld (step texts w actor at call).next

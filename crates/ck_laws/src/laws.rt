@@ -1,5 +1,5 @@
 ghost use Rattle.ck_laws.specs.Fits.{FitsLast};
-ghost use Rattle.ck_laws.specs.Laws.{CallsKeepTrees, CallsKeepWorlds, ChangesApply, FrozenChangesApply, FrozenMapsAgree, FrozenMapsLast, FrozenMapsStay, KeptMapsAreFrozen, MountsLast, OrderStays, TablesStand, TreesBegin, TreesStay, WorldsBegin, WorldsStay};
+ghost use Rattle.ck_laws.specs.Laws.{CallsKeepTrees, CallsKeepWorlds, ChangesApply, FrozenChangesApply, FrozenMapsAgree, FrozenMapsLast, FrozenMapsStay, KeptMapsAreFrozen, MountsLast, OrderStays, TablesAreOrdered, TablesStand, TreesBegin, TreesStay, WorldsBegin, WorldsStay};
 
 /// What a checkpoint froze stays: after every legal history of a well-formed world, each checkpoint
 /// that stands has the primary map of the entry that created it, or, if it stood at the beginning,
@@ -30,6 +30,7 @@ pub fn changes_apply()
 pub fn worlds_stay()
     ensures begin { WorldsBegin }
     ensures tables { TablesStand }
+    ensures tables_in_order { TablesAreOrdered }
     ensures calls { CallsKeepWorlds }
     ensures histories { WorldsStay }
     ensures order { OrderStays }

@@ -11,10 +11,10 @@ use Rattle.ck_chain.proofs.CountLaws.{some_entry}
 use Rattle.ck_nodata.specs.StripItem.{drops_data, is_extent, is_unstripped, unstripped_count}
 
 -- the entries that are left to strip
-abbrev unstripped : Table → Entries
+abbrev pub unstripped : Table → Entries
 unstripped t = map.retain_keys t.entries (λ entry. is_unstripped t entry.0 entry.1)
 
-get-unstripped : (t : Table) (e : ℕ × Key) → map.get (unstripped t) e ≡ cond (is_unstripped t e.0 e.1) (map.get t.entries e) None
+pub get-unstripped : (t : Table) (e : ℕ × Key) → map.get (unstripped t) e ≡ cond (is_unstripped t e.0 e.1) (map.get t.entries e) None
 get-unstripped t e = map.get-retain_keys t.entries (λ entry. is_unstripped t entry.0 entry.1) e (λ x tied. ap (λ (entry : ℕ × Key). is_unstripped t entry.0 entry.1) (sym (entry_cmp_exact e x tied)))
 
 -- of an entry that is no data block

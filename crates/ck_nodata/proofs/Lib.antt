@@ -4,3 +4,5 @@ pub mod WorkLemmas
 pub mod StripLemmas
 pub mod PlaceLemmas
 pub mod StrippedLaws
+pub mod PlaceLaws
+pub mod HeldLaws

@@ -114,7 +114,7 @@ none_among t fs [] ys none = (neither (strip_in t fs None) (first_strip t ys) no
 none_among t fs (x ∷ xs) ys none = none_among t fs xs ys (neither (strip_in t x None) (first_strip t (xs ++ fs ∷ ys)) none).1
 
 -- where there is no work, nothing is left to strip
-none_left : (t : Table) → IsTable t → strip_work_of t ≡ None → (fs : ℕ) (key : Key) → is_unstripped t fs key ≡ false
+pub none_left : (t : Table) → IsTable t → strip_work_of t ≡ None → (fs : ℕ) (key : Key) → is_unstripped t fs key ≡ false
 none_left t lawful none fs key =
     true_or_false (is_unstripped t fs key) (λ left.
     let drops = and_left (drops_data t fs) (is_extent (column t key fs)) left in
@@ -132,7 +132,7 @@ no_work t lawful =
     ] refl
 
 -- and where none is gone either, only the primary and checkpoints that keep data name data blocks
-all_stripped : (t : Table) → ((fs : ℕ) (key : Key) → is_unstripped t fs key ≡ false) → IsOrderly t → NoneGone t → AllStripped t
+pub all_stripped : (t : Table) → ((fs : ℕ) (key : Key) → is_unstripped t fs key ≡ false) → IsOrderly t → NoneGone t → AllStripped t
 all_stripped t done rules none fs key stamp block at = elim (rules.homes fs key (ap is_some at)) [
   | inl zero ↦ inl zero
   | inr stands ↦

@@ -3,3 +3,4 @@ pub mod PartLemmas
 pub mod ProgressLaws
 pub mod StandingLemmas
 pub mod ReplyLaws
+pub mod MountedLaws

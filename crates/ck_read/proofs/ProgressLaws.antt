@@ -7,7 +7,9 @@ use Rattle.ck_model.specs.Cells.{Cells, size_at}
 use Rattle.ck_model.specs.Changes.{touched}
 use Rattle.ck_model.specs.Contents.{file_byte, file_range}
 use Rattle.ck_read.specs.declared.progress.ReadProgress.{ReadProgress}
-use Rattle.ck_read.specs.Progress.{is_through, next_part, next_place, part_len, left_len, turns_left, turns_of, IsUnderWay, ReadFits}
+use Rattle.ck_read.specs.declared.turns.ReadTurn.TheVariants.{More, Finished}
+use Rattle.ck_read.specs.ReadTurn.{turn_at}
+use Rattle.ck_read.specs.Progress.{is_through, next_part, next_place, part_len, left_len, turns_left, turns_of, all_turns, turns_had, IsUnderWay, ReadFits}
 
 -- ---- a turn took a part of the range
 
@@ -87,6 +89,52 @@ turns_with p ys count more =
 -- each turn that leaves bytes is one of them
 pub turns_more : (p q : ReadProgress) → q ≡ record p { bytes = q.bytes } → length q.bytes ≡ length p.bytes + part_len p → is_through q ≡ false → turns_left p ≡ 1 + turns_left q
 turns_more p q others count more = turns_with p q.bytes count (ap is_through (sym others) ∙ more) ∙ ap (λ r. 1 + turns_left r) (sym others)
+
+-- ---- how many turns it has had
+
+-- none of what has no bytes yet
+pub none_had : (p : ReadProgress) → p.bytes ≡ [] → turns_had p ≡ 0
+none_had p none =
+    let no : length p.bytes ≡ 0 = ap length none in
+    let place : next_place p ≡ p.from = omega (arith, no) in
+    let all : turns_left p ≡ all_turns p = (λ i. turns_of (place i) (p.to - place i)) in
+    omega (arith, all)
+
+-- as many blocks as bytes up to the same end touch, or more
+touched_more : (from place to : ℕ) → from ≤ place → turns_of place (to - place) ≤ turns_of from (to - from)
+touched_more from place to before = elim (cases_lt place to) [
+  | inl ahead ↦
+      let some : 0 < to - place = omega (arith, ahead) in
+      let more : 0 < to - from = omega (arith, ahead, before) in
+      omega (arith, before, ahead, length-touched place (to - place) some, length-touched from (to - from) more)
+  | inr none ↦
+      let left : to - place ≡ 0 = omega (arith, none) in
+      let one : turns_of place (to - place) ≡ 1 = ap (turns_of place) left in
+      omega (arith, one)
+]
+
+left_of_all : (p : ReadProgress) → turns_left p ≤ all_turns p
+left_of_all p = touched_more p.from (next_place p) p.to (omega arith)
+
+same_range : (p q : ReadProgress) → q ≡ record p { bytes = q.bytes } → all_turns q ≡ all_turns p
+same_range p q others = ap all_turns others
+
+-- a turn that leaves bytes is one of the range's
+pub one_more_had : (p q : ReadProgress) → q ≡ record p { bytes = q.bytes } → turns_left p ≡ 1 + turns_left q → turns_had q ≡ turns_had p + 1
+one_more_had p q others more = omega (arith, left_of_all p, same_range p q others, more)
+
+-- at the end all were had, and all bytes of the range are there
+pub all_had : (p q : ReadProgress) → q ≡ record p { bytes = q.bytes } → IsUnderWay q → is_through q ≡ true → turns_left p ≡ 1 → turns_had p + 1 ≡ turns_of p.from (length q.bytes)
+all_had p q others way through last =
+    let end : q.to ≤ next_place q = grind (arith, nat_tests, through) in
+    let from : q.from ≡ p.from = ap (λ (r : ReadProgress). r.from) others in
+    let to : q.to ≡ p.to = ap (λ (r : ReadProgress). r.to) others in
+    let bytes : length q.bytes ≡ p.to - p.from = omega (arith, way.within, end, from, to) in
+    omega (arith, left_of_all p, last, ap (turns_of p.from) bytes)
+
+-- a turn that finishes is one at the end
+pub finished_through : (q : ReadProgress) → Finished ≡ turn_at q → is_through q ≡ true
+finished_through q is = elim (is_through q) as (λ b. Finished ≡ cond b Finished More → b ≡ true) [ true ↦ λ _. refl | false ↦ λ h. cc ] is
 
 -- ---- from the first turn to the last
 

@@ -25,7 +25,7 @@ use Rattle.ck_read.specs.Block.{map_on}
 
 module _ (store : Store) (t : Table) (id : ℕ) where
   -- the checkpoint with this fileset, unless that is gone
-  abbrev shown : Fileset → Option Checkpoint
+  abbrev pub shown : Fileset → Option Checkpoint
   shown fileset = cond fileset.gone None (Some (checkpoint_on store t id fileset))
 
   abbrev checkpoints_in : List (ℕ × Fileset) → List Checkpoint
@@ -57,7 +57,7 @@ module _ (store : Store) (t : Table) (id : ℕ) where
             ∙ sym (ap (λ b. option_and_then shown (cond b (Some e.1) (map.find nat_cmp id es))) untied)
       ] refl
 
-  found : find (has_id id) (checkpoints_on store t) ≡ option_and_then shown (map.get t.filesets id)
+  pub found : find (has_id id) (checkpoints_on store t) ≡ option_and_then shown (map.get t.filesets id)
   found = found_in (map.entries t.filesets) (entries_sorted t.filesets) ∙ ap (option_and_then shown) (sym (map.get-entries t.filesets id))
 
   -- ---- what is read of it

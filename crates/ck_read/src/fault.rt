@@ -1,4 +1,4 @@
-use ck_model::{NoMemory, WalkFault};
+use ck_model::{NoMemory, Reply, WalkFault};
 use std::alloc::AllocError;
 
 /// Why a read of a checkpoint's file doesn't begin.
@@ -12,6 +12,25 @@ pub enum StartFault {
     NotDir,
     IsDir,
     NoMemory,
+}
+
+impl StartFault {
+    ghost use Rattle.std.specs.Prelude.{◌≡◌};
+    ghost use Rattle.ck_read.specs.StartFault.{reply_of};
+
+    /// The reply of its name to a read of this checkpoint.
+    pub fn reply(self, ckpt: u32) -> Reply
+        ensures { result ≡ reply_of ckpt self }
+    {
+        match self {
+            StartFault::Gone => Reply::Gone(ckpt),
+            StartFault::NoData => Reply::NoData(ckpt),
+            StartFault::NotFound => Reply::NotFound,
+            StartFault::NotDir => Reply::NotDir,
+            StartFault::IsDir => Reply::IsDir,
+            StartFault::NoMemory => Reply::NoMemory,
+        }
+    }
 }
 
 impl From<WalkFault> for StartFault {

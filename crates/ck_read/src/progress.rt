@@ -9,7 +9,7 @@ ghost use Rattle.ck_model.specs.Values.{Store};
 ghost use Rattle.ck_read.specs.declared.fault.BlockFault.TheVariants.{ReadFault};
 ghost use Rattle.ck_read.specs.declared.fault.StartFault.TheVariants.{NoMemory};
 ghost use Rattle.ck_read.specs.Block.{map_on, store_on};
-ghost use Rattle.ck_read.specs.Progress.{is_through, next_part, next_place, part_len, IsUnderWay, ReadFits};
+ghost use Rattle.ck_read.specs.Progress.{is_through, next_part, next_place, part_len, turns_had, IsUnderWay, ReadFits};
 ghost use Rattle.ck_read.specs.StartFault.{content_on, file_in, file_read, file_size};
 
 use crate::block::{append_part, block_of};
@@ -75,6 +75,7 @@ pub fn start<M: Meta>(
     ensures none { IfOk result (λ progress. progress.bytes ≡ []) }
     ensures fits { IfOk result (λ progress. (store : Store) →
         ReadFits (map_on store (M.table meta.now) ckpt) progress) }
+    ensures had { IfOk result (λ progress. turns_had progress ≡ 0) }
 {
     if !is_live(meta, ckpt) {
         return Err(StartFault::Gone);

@@ -5,7 +5,7 @@ ghost use Rattle.ck_model.specs.Chain.{is_live, is_live_data};
 ghost use Rattle.ck_model.specs.Rules.{IsOrderly};
 ghost use Rattle.ck_read.specs.declared.turns.ReadTurn.TheVariants.{More, Finished, Gone, NoData, ReadFault};
 ghost use Rattle.ck_read.specs.Block.{map_on, store_on};
-ghost use Rattle.ck_read.specs.Progress.{next_part, part_len, turns_left, IsUnderWay, ReadFits};
+ghost use Rattle.ck_read.specs.Progress.{next_part, part_len, turns_had, turns_left, turns_of, IsOnWay, IsUnderWay, ReadFits};
 ghost use Rattle.ck_read.specs.ReadTurn.{has_read, turn_at};
 
 use crate::checkpoint::keeps_files;
@@ -44,6 +44,7 @@ pub fn turn<M: Meta, D: Disk>(
     ensures gone { (result ≡ Gone) ↔ (is_live (M.table meta.now) progress.old.ckpt ≡ false) }
     ensures no_data { (result ≡ NoData) ↔ ((is_live (M.table meta.now) progress.old.ckpt ≡ true)
         × (is_live_data (M.table meta.now) progress.old.ckpt ≡ false)) }
+    ensures stands { has_read result ≡ true → is_live_data (M.table meta.now) progress.old.ckpt ≡ true }
     ensures fault { result ≡ ReadFault → Rose (D.means disk.old).read_faults (D.means disk.new).read_faults }
     ensures unchanged { has_read result ≡ false → progress.new ≡ progress.old }
     // It is finished where the range's end is reached, after what this turn took.
@@ -58,6 +59,10 @@ pub fn turn<M: Meta, D: Disk>(
         ReadFits cells progress.old → ReadFits cells progress.new }
     ensures more { result ≡ More → turns_left progress.old ≡ 1 + turns_left progress.new }
     ensures last { result ≡ Finished → turns_left progress.old ≡ 1 }
+    // Where bytes are left, it was one more of the range's turns; at the end all were had, and all bytes are there.
+    ensures on_way { result ≡ More → IsOnWay progress.old.from progress.new }
+    ensures had { result ≡ More → turns_had progress.new ≡ turns_had progress.old + 1 }
+    ensures all_had { result ≡ Finished → turns_had progress.old + 1 ≡ turns_of progress.old.from (length progress.new.bytes) }
     ensures device { OnlyReads (D.means disk.old) (D.means disk.new) }
 {
     if !is_live(meta, progress.ckpt) {

@@ -1,5 +1,5 @@
 -- The world that an image of blocks opens to.
-use Rattle.std.proofs.Common.{◌≡◌, ◌≤◌, ◌<◌, ◌+◌, ℕ, Bool, true, false, not, ◌&&◌, ◌==◌, nat_le, if◌then◌else◌, Option, Some, None, [], length, get_or, refl, subst, arith}
+use Rattle.std.proofs.Common.{◌≡◌, ◌≤◌, ◌<◌, ◌+◌, ℕ, Bool, true, false, not, ◌&&◌, ◌==◌, nat_le, if◌then◌else◌, [], length, get_or, refl, sym, subst, arith}
 use Rattle.std.specs.Prelude.{bytes_eq, take}
 use Rattle.std.specs.FinMap as map
 use Rattle.std.proofs.lemmas.Bool.Decides.{nat_tests}
@@ -7,14 +7,11 @@ use Rattle.std.proofs.lemmas.List.Elements.{All-get_or}
 use Rattle.ck_disk.specs.Disk.{Image, Meaning, IsBlock, AreBlocks, Lawful}
 use Rattle.ck_log.specs.Layout.{Layout, is_sized, base_of, size_of}
 use Rattle.ck_log.specs.Header.{Recovered, NotVolume as NoVolume, BadFormat as BadHeader, Opens as OpensAt, magic, number_at}
-use Rattle.ck_log.specs.Images.{names_second, recovered_region, table_on}
-use Rattle.ck_area.specs.Area.{Area, AreSlots, table_of}
-use Rattle.ck_area.specs.Damage.{damage, is_unbuilt}
-use Rattle.ck_area.proofs.TableLaws.{records_of_slots, table_within, undamaged_sound}
+use Rattle.ck_log.specs.Images.{names_second, recovered_region}
 use Rattle.ck_data.specs.Device.{store_on}
 use Rattle.ck_model.specs.World.{World}
 use Rattle.ck_laws.specs.Laws.{IsWorld, StoresBlocks, TablesStand}
-use Rattle.ck_engine.specs.Recovery.{BadFormat, Opens, world_in, unless_damaged, FindsBy}
+use Rattle.ck_engine.proofs.RecoveryLaws.{recovered_table}
 use Rattle.ck_recovered.specs.Laws.{VolumesOpen, CrashesOpen, ReadsOpen}
 
 -- ---- a volume lies within its device
@@ -57,31 +54,14 @@ stores-blocks image layout blocks fits block low =
 
 -- ---- the world
 
-module _ (stand : TablesStand) (image : Image) (w : World) (blocks : AreBlocks image) where
-  -- slots without damage
-  by_damage : (layout : Layout) (area : Area) → recovered_region image ≡ OpensAt layout → AreSlots (table_on layout image) area
-      → (o : Option ℕ) → damage layout.blocks layout.records area ≡ o → Opens w ≡ unless_damaged layout image area o → IsWorld w
-  by_damage layout area region slots (Some slot) is found = cc
-  by_damage layout area region slots None is found =
-      let same : world_in layout image area ≡ w = cc in
-      subst IsWorld same
-      (stand (store_on image (base_of layout.records)) map.empty (table_of layout.blocks layout.records area)
-      (table_within layout.blocks layout.records area (records_of_slots (table_on layout image) area slots))
-      (undamaged_sound layout.blocks layout.records area is).orderly
-      (stores-blocks image layout blocks (recovered-fits image layout region)))
-
-  by_form : (layout : Layout) (area : Area) → recovered_region image ≡ OpensAt layout → AreSlots (table_on layout image) area
-      → (unbuilt : Bool) → Opens w ≡ (if unbuilt then BadFormat 0 else unless_damaged layout image area (damage layout.blocks layout.records area)) → IsWorld w
-  by_form layout area region slots true found = cc
-  by_form layout area region slots false found = by_damage layout area region slots (damage layout.blocks layout.records area) refl found
-
-  by_header : (said : Recovered) → recovered_region image ≡ said → FindsBy said image (Opens w) → IsWorld w
-  by_header NoVolume region found = cc
-  by_header (BadHeader version) region found = cc
-  by_header (OpensAt layout) region found = by_form layout found.0 region found.1 (is_unbuilt found.0) found.2
-
 pub volumes_open_lem : TablesStand → VolumesOpen
-volumes_open_lem stand image w opened = by_header stand image w opened.blocks (recovered_region image) refl opened.opens
+volumes_open_lem stand image w opened =
+    let has = recovered_table image w opened.opens in
+    let base = base_of has.layout.records in
+    let stores = stores-blocks image has.layout opened.blocks (recovered-fits image has.layout has.region) in
+    subst IsWorld has.world
+    (stand (store_on image base) map.empty has.table has.is_table has.orderly
+    (subst (λ n. StoresBlocks n (store_on image base)) (sym has.blocks) stores))
 
 pub crashes_open_lem : (m : Meaning) → Lawful m → CrashesOpen m
 crashes_open_lem m law t image w left opens = record { blocks = law.blocks t image left; opens = opens }

@@ -5,3 +5,4 @@ mod FreedLemmas
 mod UnlinkedLemmas
 mod PromotedLemmas
 mod RestoredLemmas
+pub mod WorldLaws

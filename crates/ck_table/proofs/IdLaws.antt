@@ -51,7 +51,7 @@ ids_put_over id v (e ∷ es) s found =
     ] refl long
 
 -- a record put behind all others
-put_last : {X : Type 0} (id : ℕ) (v : X) (es : List (ℕ × X)) → ((x : ℕ) → IsSome (find nat_cmp x es) → x < id) → put nat_cmp id v es ≡ es ++ (id, v) ∷ []
+pub put_last : {X : Type 0} (id : ℕ) (v : X) (es : List (ℕ × X)) → ((x : ℕ) → IsSome (find nat_cmp x es) → x < id) → put nat_cmp id v es ≡ es ++ (id, v) ∷ []
 put_last id v [] below = refl
 put_last id v (e ∷ es) below =
     let here : IsSome (find nat_cmp e.0 (e ∷ es)) = ap (λ o. is_some (cond (is_eq o) (Some e.1) (find nat_cmp e.0 es))) (tied_itself nat_cmp_total e.0) in

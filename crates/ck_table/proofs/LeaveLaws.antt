@@ -19,7 +19,7 @@ use Rattle.ck_table.proofs.IdLaws.{is_other, get-recorded, get-recorded_other, s
 use Rattle.ck_table.proofs.WithoutLaws.{IsWithout, newer-without, value-without, holder-without, keeps-without, seen-without, filter-others, filter-dropped}
 use Rattle.ck_table.proofs.Sound.{Counts, sound_with, still_needed}
 
-stands_live : (t : Table) (x : ℕ) → is_live t x ≡ true → IsSome (map.get t.filesets x)
+pub stands_live : (t : Table) (x : ℕ) → is_live t x ≡ true → IsSome (map.get t.filesets x)
 stands_live t x live = elim (map.get t.filesets x) as (λ o. option_map_or (λ (f : Fileset). not f.gone) o false ≡ true → IsSome o) [ None ↦ λ h. h | Some f ↦ λ _. refl ] live
 
 -- ---- a checkpoint becomes gone
@@ -57,7 +57,7 @@ live_ids_gone t id f is =
     let u = with_fileset t id (Some (as_gone f)) in
     ap (filter (is_live u)) (newer-gone t id f is 0) ∙ filter_twice (is_live u) (is_live t) (is_other id) (is_live-gone t id f) (newer t 0)
 
-any_more : (p q : ℕ → Bool) → ((x : ℕ) → p x ≡ true → q x ≡ true) → (xs : List ℕ) → list_any p xs ≡ true → list_any q xs ≡ true
+pub any_more : (p q : ℕ → Bool) → ((x : ℕ) → p x ≡ true → q x ≡ true) → (xs : List ℕ) → list_any p xs ≡ true → list_any q xs ≡ true
 any_more p q more [] h = h
 any_more p q more (x ∷ xs) h =
     elim (p x) as (λ b. p x ≡ b → (b || list_any p xs) ≡ true → (q x || list_any q xs) ≡ true) [
@@ -83,7 +83,7 @@ passes_among : (test : ℕ → Bool) (x : ℕ) → test x ≡ true → (xs : Lis
 passes_among test x passes xs there = any_more (nat_eq x) test (λ y same. sym (ap test (eqb-true x y same)) ∙ passes) xs there
 
 -- a data checkpoint that isn't gone keeps data
-own_data : (t : Table) → IsTable t → (fs : ℕ) → is_live_data t fs ≡ true → keeps_data t fs ≡ true
+pub own_data : (t : Table) → IsTable t → (fs : ℕ) → is_live_data t fs ≡ true → keeps_data t fs ≡ true
 own_data t lawful fs live =
     let stands : IsSome (map.get t.filesets fs) = elim (map.get t.filesets fs) as (λ o. option_map_or (λ (g : Fileset). not g.gone && keeps_files g.kind) o false ≡ true → IsSome o) [ None ↦ λ h. h | Some g ↦ λ _. refl ] live in
     let above : 0 < fs = elim (map.get t.filesets fs) as (λ o. map.get t.filesets fs ≡ o → IsSome o → 0 < fs) [
@@ -97,7 +97,7 @@ still_data : (t : Table) (id : ℕ) (f : Fileset) (fs : ℕ) → nat_eq fs id �
 still_data t id f fs apart live =
     ap (λ o. option_map_or (λ (g : Fileset). not g.gone && keeps_files g.kind) o false) (get-recorded_other t.filesets id (Some (as_gone f)) fs apart) ∙ live
 
-read : (t : Table) (fs : ℕ) (key : Key) → keeps_data t fs ≡ true → seen t fs key ≡ value_of t fs key
+pub read : (t : Table) (fs : ℕ) (key : Key) → keeps_data t fs ≡ true → seen t fs key ≡ value_of t fs key
 read t fs key keeps = ap (λ b. cond b (value_of t fs key) (option_map as_mark (value_of t fs key))) keeps
 
 seen_gone : (t : Table) (id : ℕ) (f : Fileset) → map.get t.filesets id ≡ Some f → IsTable t → IsTable (with_fileset t id (Some (as_gone f))) → (fs : ℕ) (key : Key) → fs ≢ id → is_live_data t fs ≡ true → seen (with_fileset t id (Some (as_gone f))) fs key ≡ seen t fs key
@@ -157,6 +157,12 @@ at_gone t id P live each =
       | None ↦ λ _ h. absurd (false≢true h)
       | Some f ↦ λ is _. each f is
     ] refl (stands_live t id live)
+
+pub newer-with_gone : (t : Table) (id : ℕ) → is_live t id ≡ true → (fs : ℕ) → newer (with_gone t id) fs ≡ newer t fs
+newer-with_gone t id live fs = at_gone t id (λ u. newer u fs ≡ newer t fs) live (λ f is. newer-gone t id f is fs)
+
+pub live-with_gone : (t : Table) (id : ℕ) → is_live t id ≡ true → (x : ℕ) → is_live (with_gone t id) x ≡ (is_live t x && is_other id x)
+live-with_gone t id live x = at_gone t id (λ u. is_live u x ≡ (is_live t x && is_other id x)) live (λ f is. is_live-gone t id f x)
 
 pub value-with_gone : (t : Table) (id : ℕ) → is_live t id ≡ true → (fs : ℕ) (key : Key) → value_of (with_gone t id) fs key ≡ value_of t fs key
 value-with_gone t id live fs key = at_gone t id (λ u. value_of u fs key ≡ value_of t fs key) live (λ f is. value_gone t id f is fs key)

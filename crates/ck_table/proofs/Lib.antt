@@ -4,3 +4,8 @@ pub mod WithoutLaws
 pub mod Sound
 pub mod AddLemmas
 pub mod LeaveLaws
+pub mod FlagLaws
+pub mod KeepsLaws
+pub mod ShownLaws
+pub mod WorldLaws
+pub mod AddedLaws

@@ -1,3 +1,4 @@
 pub mod Names
 pub mod Added
 pub mod Gone
+pub mod Flags

@@ -3,6 +3,9 @@ pub mod BegunLaws
 pub mod ReservedLaws
 pub mod CausesLemmas
 pub mod ToldLaws
+pub mod FitsLaws
+pub mod CallsLemmas
+pub mod TurnLemmas
 pub mod StandsLaws
 pub mod StoodLaws
 pub mod CutsLaws

@@ -1,5 +1,5 @@
 -- How far a call has come that takes more than one event.
-use Rattle.std.specs.Prelude.{◌≡◌, ⊤, ℕ, ◌+◌, List, IsTrue}
+use Rattle.std.specs.Prelude.{◌≡◌, ⊤, ℕ, ◌+◌, List, Option, Some, None, IsTrue}
 use Rattle.ck_disk.specs.Disk.{Meaning}
 use Rattle.ck_model.specs.declared.call.Call.{Call}
 use Rattle.ck_model.specs.declared.call.Call.TheVariants.{Cread}
@@ -11,6 +11,7 @@ use Rattle.ck_model.specs.Streams.{Texts}
 use Rattle.ck_model.specs.World.{World}
 use Rattle.ck_laws.specs.Fits.{Reading, Fits}
 use Rattle.ck_read.specs.declared.progress.ReadProgress.{ReadProgress}
+use Rattle.ck_read.specs.Mounted.{IsReadIn, IsReadNow}
 use Rattle.ck_read.specs.Progress.{turns_had, turns_of, IsOnWay}
 use Rattle.ck_engine.specs.Recovery.{Recovers}
 use Rattle.ck_volume.specs.declared.event.Progress.{Progress}
@@ -19,6 +20,11 @@ use Rattle.ck_volume.specs.Told.{AreAnswered}
 
 abbrev pub reading_of : ReadProgress → Reading
 reading_of read = record { ckpt = read.ckpt; node = read.node; from = read.from; to = read.to; bytes = read.bytes }
+
+-- the read that is on its way
+abbrev pub read_of : Progress → Option ReadProgress
+read_of progress.Fresh = None
+read_of (progress.Read read) = Some read
 
 -- how many events of the call there were
 abbrev pub had_of : Progress → ℕ
@@ -41,6 +47,24 @@ FitsHistory origin told history actor call progress.Fresh = ⊤
 FitsHistory origin told history actor call (progress.Read read) =
     IsTrue origin.tells → (w : World) → Recovers origin.shows w → (texts : Texts) (calls : CallsBy) → AreAnswered calls told history →
     Fits texts calls w history actor call (reading_of read)
+
+-- what was read fits an actor's call in this world
+abbrev pub IsOfWorld : World → ℕ → Call → ReadProgress → Type 0
+IsOfWorld w actor (Cread letter path at len) read = IsReadIn w actor letter path at len read
+IsOfWorld w actor _ read = ⊥
+
+abbrev pub FitsWorld : World → ℕ → Call → Progress → Type 0
+FitsWorld w actor call progress.Fresh = ⊤
+FitsWorld w actor call (progress.Read read) = IsOfWorld w actor call read
+
+-- its checkpoint stands there with its data
+abbrev pub IsNowOf : World → ℕ → Call → ReadProgress → Type 0
+IsNowOf w actor (Cread letter path at len) read = IsReadNow w actor letter path at len read
+IsNowOf w actor _ read = ⊥
+
+abbrev pub FitsNow : World → ℕ → Call → Progress → Type 0
+FitsNow w actor call progress.Fresh = ⊥
+FitsNow w actor call (progress.Read read) = IsNowOf w actor call read
 
 -- bytes of a checkpoint are given at the event that takes the last block of them, which has this number, counted from 1
 abbrev pub IsLastOf : Call → Reply → ℕ → Type 0

@@ -1,9 +1,16 @@
 -- Whether an event answered its call, and what it leaves where there is more to do of it.
-use Rattle.std.specs.Prelude.{◌≡◌, ⊤, ℕ, ◌+◌, IsTrue}
+use Rattle.std.specs.Prelude.{◌≡◌, ◌⊎◌, ⊤, ℕ, ◌+◌, IsTrue}
 use Rattle.ck_disk.specs.Disk.{Meaning}
 use Rattle.ck_disk.specs.Runs.{OnlyReads}
 use Rattle.ck_disk.specs.declared.disk.Disk.{Ghosts}
 use Rattle.ck_model.specs.declared.call.Call.{Call}
+use Rattle.ck_model.specs.declared.reply.Reply.{Reply}
+use Rattle.ck_model.specs.World.{World, unmounted}
+use Rattle.ck_read.specs.declared.progress.ReadProgress.{ReadProgress}
+use Rattle.ck_engine.specs.declared.reads.ReadAnswer.{ReadAnswer}
+use Rattle.ck_engine.specs.declared.reads.ReadAnswer.TheVariants as turn
+use Rattle.ck_engine.specs.Engine as files
+use Rattle.ck_volume.specs.Present as now
 use Rattle.ck_volume.specs.declared.event.Progress.{Progress}
 use Rattle.ck_volume.specs.declared.event.Turn.{Turn}
 use Rattle.ck_volume.specs.declared.event.Turn.TheVariants.{More, Answered}
@@ -18,6 +25,24 @@ OnAnswered Answered X = X
 abbrev pub OnMore : Turn → Type 0 → Type 0
 OnMore More X = X
 OnMore Answered X = ⊤
+
+-- a reply, and a read that goes on
+abbrev pub OnReply : ReadAnswer → (Reply → Type 0) → Type 0
+OnReply (turn.More read) P = ⊤
+OnReply (turn.Replied reply) P = P reply
+
+abbrev pub OnRead : ReadAnswer → (ReadProgress → Type 0) → Type 0
+OnRead (turn.More read) P = P read
+OnRead (turn.Replied reply) P = ⊤
+
+-- the device was read, and a crash leaves what it left before
+pub record IsReading {D : Type 0} (old new : Meaning) (before after : now.Present D) : Type 0 where
+  pub world : IsTrue old.tells → now.world_of new.shows after ≡ now.world_of old.shows before
+  pub table : files.table_of after.engine ≡ files.table_of before.engine
+  pub mounts : files.mounts_of after.engine ≡ files.mounts_of before.engine
+  pub device : OnlyReads old new
+  pub survives : now.Survives old new before
+  pub kept : IsTrue old.tells → (w : World) → now.KeepsWorld old before w → now.KeepsWorld new after w ⊎ now.KeepsWorld new after (unmounted (now.world_of old.shows before))
 
 -- One block more of a checkpoint was read, and the read goes on to fit its call. The device was read, and nothing else changed.
 pub record GoesOn {D : Type 0} {g : Ghosts D} (means : D → Meaning) (before after : Volume D g) (actor : ℕ) (call : Call) (was progress : Progress) : Type 0 where

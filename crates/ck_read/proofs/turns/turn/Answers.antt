@@ -1,6 +1,6 @@
 use Rattle.std.proofs.Common.{sym, ◌∙◌}
 use Rattle.ck_read.specs.Block.{map_on, store_on}
-use Rattle.ck_read.proofs.ProgressLaws.{fits_more, turns_more}
+use Rattle.ck_read.proofs.ProgressLaws.{fits_more, turns_more, one_more_had}
 use Rattle.ck_read.proofs.turns.turn.Goals as goal
 
 pub returns-in-Ok-clause-fits : goal.returns-in-Ok-clause-fits
@@ -16,3 +16,9 @@ returns-in-Ok-2-clause-fits g c = λ told.
 pub returns-in-Ok-2-clause-more : goal.returns-in-Ok-2-clause-more
 returns-in-Ok-2-clause-more g c = λ more.
     turns_more c.args.progress.now c.read_block.new.self c.in-Ok-2.ensures.others c.in-Ok-2.ensures.count (sym c.is_through.ensures ∙ c.if-is_through.false)
+
+pub returns-in-Ok-2-clause-had : goal.returns-in-Ok-2-clause-had
+returns-in-Ok-2-clause-had g c = λ more.
+    let p = c.args.progress.now in
+    let q = c.read_block.new.self in
+    one_more_had p q c.in-Ok-2.ensures.others (turns_more p q c.in-Ok-2.ensures.others c.in-Ok-2.ensures.count (sym c.is_through.ensures ∙ c.if-is_through.false))

@@ -5,8 +5,9 @@ use Rattle.ck_disk.specs.Runs.{Runs}
 use Rattle.ck_engine.proofs.KeptLaws.{recovers-one}
 use Rattle.ck_volume.specs.Causes.{HasCauses}
 use Rattle.ck_volume.specs.Cuts.{LeavesCuts}
-use Rattle.ck_volume.specs.Kept.{broken_by, BreaksFrom, Stands, IsKept}
+use Rattle.ck_volume.specs.Kept.{broken_by, BreaksFrom, HasCalls, Stands, IsKept}
 use Rattle.ck_volume.specs.Present.{present, history_of, broken_of}
+use Rattle.ck_volume.proofs.CallsLemmas.{calls-none}
 use Rattle.ck_volume.proofs.CausesLemmas.{causes-none}
 use Rattle.ck_disk.proofs.RunLaws.{runs-none}
 use Rattle.ck_volume.proofs.CutsLaws.{cuts-begin}
@@ -29,6 +30,8 @@ invariant_of-result g c =
         causes = subst (λ (d : g.row.D.Denot). HasCauses (means d) m (history_of volume)) (sym origin) (subst (λ (h : List Entry). HasCauses m m h) (sym none) (causes-none m));
         breaks = or-entry (broken_by 0 None (history_of volume)) c.of-3.result.value (broken_of volume) unbroken c.of-3.ensures;
         replies = subst (λ (h : List Entry). ∥ BreaksFrom 0 None h ∥₁) (sym none) ∣ tt ∣₁;
+        begins = subst (λ (d : g.row.D.Denot). ∥ HasCalls (means d) [] (history_of volume) ∥₁) (sym origin)
+            (subst (λ (h : List Entry). ∥ HasCalls m [] h ∥₁) (sym none) ∣ calls-none m (world_of m.shows engine) c.requires.recovers ∣₁);
         stands = subst (λ (d : g.row.D.Denot). ∥ Stands (means d) m [] volume ∥₁) (sym origin) ∣ stands-begins m volume none c.requires.recovers ∣₁;
         within = omega (arith, c.of-2.ensures);
         cuts = subst (λ (d : g.row.D.Denot). ∥ LeavesCuts (means d) m [] c.of-2.result.value volume ∥₁) (sym origin)

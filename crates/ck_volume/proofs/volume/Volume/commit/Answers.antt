@@ -8,7 +8,7 @@ use Rattle.ck_volume.specs.CommitAnswer.{committed_after, spoilt_after}
 use Rattle.ck_engine.specs.Engine.{disk_of}
 use Rattle.ck_history.specs.History.{entries_of}
 use Rattle.ck_volume.specs.Present.{present, history_of, broken_of, world_of}
-use Rattle.ck_volume.specs.Kept.{broken_by, BreaksFrom}
+use Rattle.ck_volume.specs.Kept.{broken_by, BreaksFrom, HasCalls}
 use Rattle.ck_volume.specs.Told.{told_of}
 use Rattle.ck_volume.proofs.CausesLemmas.{causes-still}
 use Rattle.ck_disk.proofs.RunLaws.{runs-more}
@@ -54,6 +54,7 @@ invariant_of-self g c =
         causes = subst (λ (h : List Entry). HasCauses origin new h) (sym history) (causes-still origin mid new old volume.kept.causes commit.runs);
         breaks = subst (λ (h : List Entry). broken_of after ≡ option_or (broken_by 0 None h) spoilt) (sym history) broken;
         replies = subst (λ (h : List Entry). ∥ BreaksFrom 0 None h ∥₁) (sym history) volume.kept.replies;
+        begins = subst (λ (h : List Entry). ∥ HasCalls origin (told_of volume.told) h ∥₁) (sym history) volume.kept.begins;
         stands = ∥∥₁_map volume.kept.stands (λ stands. stands-still origin mid new (told_of volume.told) before after stands volume.kept.runs.tells history commit.world);
         within = subst (λ (h : List Entry). c.note_commit.new.committed.value ≤ length h) (sym history) within;
         cuts = ∥∥₁_map volume.kept.cuts

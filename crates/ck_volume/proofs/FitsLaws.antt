@@ -1,0 +1,175 @@
+-- What a read that is on its way has to do with the history and with the present world.
+use Rattle.std.proofs.Common.{◌≡◌, ◌≢◌, ◌≤◌, ◌<◌, ℕ, ◌+◌, ◌-◌, Bool, true, false, Option, Some, None, List, [], ◌∷◌, ◌++◌, length, find, min, nat_eq, Result, if◌then◌else◌, IsTrue, refl, sym, ap, subst, ◌∙◌, arith}
+use Rattle.std.specs.Prelude.{⊤}
+use Rattle.std.specs.Coded.{Coded-set, coded_ℕ, coded_result}
+use Rattle.std.specs.FinMap as map
+use Rattle.std.proofs.Props.{props}
+use mathlib.Core.Logic.{∥∥₁_elim}
+use Rattle.ck_disk.specs.Disk.{Meaning}
+use Rattle.ck_model.specs.contracts.reply.Reply as reply_row
+use Rattle.ck_model.specs.declared.call.Call.{Call}
+use Rattle.ck_model.specs.declared.call.Call.TheVariants.{Cread}
+use Rattle.ck_model.specs.declared.checkpoint.Kind.TheVariants.{Keeping}
+use Rattle.ck_model.specs.declared.entry.Entry.{Entry}
+use Rattle.ck_model.specs.declared.reply.Reply.{Reply}
+use Rattle.ck_model.specs.Cells.{Cells, size_at}
+use Rattle.ck_model.specs.Streams.{Texts}
+use Rattle.ck_model.specs.World.{World, Checkpoint, has_id}
+use Rattle.ck_model.specs.History.{CallsBy, IsLegal, begun, past_of, numbers_of, state}
+use Rattle.ck_laws.specs.Laws.{IsOrdered, frozen}
+use Rattle.ck_laws.specs.Fits.{Reading, IsReadingOf, FitsCall, Fits}
+use Rattle.ck_laws.proofs.OthersLaws.{fits_last_lem, kept_maps_are_frozen_lem}
+use Rattle.ck_laws.proofs.TableLaws.{tables_are_ordered_lem}
+use Rattle.ck_log.specs.Layout.{base_of}
+use Rattle.ck_data.specs.Device.{store_on}
+use Rattle.ck_read.specs.declared.progress.ReadProgress.{ReadProgress}
+use Rattle.ck_read.specs.Mounted.{IsReadIn, IsReadNow}
+use Rattle.ck_read.specs.Progress.{all_turns, left_len, next_place, turns_had, turns_left, turns_of, IsOnWay, IsReadOf}
+use Rattle.ck_engine.specs.Recovery.{Recovers}
+use Rattle.ck_engine.proofs.RecoveryLaws.{recovered_table}
+use Rattle.ck_volume.specs.declared.event.Progress.{Progress}
+use Rattle.ck_volume.specs.declared.event.Progress.TheVariants as progress
+use Rattle.ck_volume.specs.Kept.{HasCalls, Stands, broken_by}
+use Rattle.ck_volume.specs.Present.{Present, history_of, world_of}
+use Rattle.ck_volume.specs.Progress.{reading_of, IsBegunFor, FitsHistory, FitsNow, FitsWorld}
+use Rattle.ck_volume.specs.Told.{AreAnswered}
+use Rattle.ck_volume.proofs.ToldLaws.{answered-before}
+
+-- what an image recovers to has its checkpoints in order
+pub recovered_order : (w : World) (image : List (List ℕ)) → Recovers image w → IsOrdered w
+recovered_order w image found =
+    let has = recovered_table image w found in
+    subst IsOrdered has.world (tables_are_ordered_lem (store_on image (base_of has.layout.records)) map.empty has.table has.is_table has.orderly)
+
+-- ---- in the present world
+
+-- a read of a letter's checkpoint, as the history tells of it
+record IsTold (w : World) (actor letter : ℕ) (path : List (List ℕ)) (at len : ℕ) (reading : Reading) : Type 0 where
+  mounted : map.get w.mounts (actor, letter) ≡ Some reading.ckpt
+  reads : (checkpoint : Checkpoint) → find (has_id reading.ckpt) w.checkpoints ≡ Some checkpoint → checkpoint.kind ≡ Keeping → IsReadingOf checkpoint.cells path at len reading
+
+file-set : IsSet (Result ℕ Reply)
+file-set = Coded-set (coded_result coded_ℕ reply_row.the_row.coded)
+
+reading-prop : (cells : Cells) (path : List (List ℕ)) (at len : ℕ) (reading : Reading) → IsProp (IsReadingOf cells path at len reading)
+reading-prop cells path at len reading = hlevel (file-set, props)
+
+now-prop : (w : World) (actor letter : ℕ) (path : List (List ℕ)) (at len : ℕ) (reading : Reading) → IsProp (IsTold w actor letter path at len reading)
+now-prop w actor letter path at len reading = hlevel (reading-prop, props)
+
+one_map : (o : Option Cells) (a b : Cells) → o ≡ Some a → o ≡ Some b → a ≡ b
+one_map o a b is same = cc
+
+no_texts : Texts
+no_texts = record { full = λ id items. []; changes = λ from to items. [] }
+
+module _ {D : Type 0} (origin now : Meaning) (told : List Call) (volume : Present D) (stands : Stands origin now told volume) (is_told : IsTrue origin.tells) where
+  abbrev history : List Entry
+  history = history_of volume
+
+  abbrev here : World
+  here = world_of now.shows volume
+
+  module _ (texts : Texts) (calls : CallsBy) (w : World) (found : Recovers origin.shows w) (answered : AreAnswered calls told (history_of volume)) where
+    -- the history leads there
+    here_is : state texts calls w history ≡ here
+    here_is = ap (λ past. past.world) (stands is_told w found texts calls answered).1
+
+    -- a checkpoint that stands with its data has the map that was frozen
+    frozen_here : (id : ℕ) (checkpoint : Checkpoint) → find (has_id id) here.checkpoints ≡ Some checkpoint → checkpoint.kind ≡ Keeping → frozen texts calls w history id ≡ Some checkpoint.cells
+    frozen_here id checkpoint stood keeps =
+        kept_maps_are_frozen_lem texts calls w history (recovered_order w origin.shows found) (stands is_told w found texts calls answered).0 id checkpoint
+        (ap (λ (x : World). find (has_id id) x.checkpoints) here_is ∙ stood) keeps
+
+    fits_here : (actor letter : ℕ) (path : List (List ℕ)) (at len : ℕ) (reading : Reading) → FitsCall texts calls w history actor letter path at len reading → IsTold here actor letter path at len reading
+    fits_here actor letter path at len reading fits = record {
+      mounted = sym (ap (λ (x : World). map.get x.mounts (actor, letter)) here_is) ∙ fits.mounted;
+      reads = λ checkpoint stood keeps.
+          subst (λ cells. IsReadingOf cells path at len reading)
+          (one_map (frozen texts calls w history reading.ckpt) fits.cells checkpoint.cells fits.cells_are (frozen_here reading.ckpt checkpoint stood keeps)) fits.read;
+    }
+
+    fits_then : (actor letter : ℕ) (path : List (List ℕ)) (at len : ℕ) (read : ReadProgress) → IsReadNow here actor letter path at len read → FitsCall texts calls w history actor letter path at len (reading_of read)
+    fits_then actor letter path at len read reads = record {
+      mounted = ap (λ (x : World). map.get x.mounts (actor, letter)) here_is ∙ reads.mounted;
+      cells = reads.checkpoint.cells;
+      cells_are = frozen_here read.ckpt reads.checkpoint reads.stands reads.keeps;
+      read = record {
+        file = reads.reads.file;
+        from_is = reads.reads.from;
+        to_is = reads.reads.to;
+        within = reads.reads.fits.under_way.within;
+        bytes_are = reads.reads.fits.bytes;
+      };
+    }
+
+-- so it has it in the present one
+module _ {D : Type 0} (origin now : Meaning) (told : List Call) (volume : Present D) (stands : Stands origin now told volume) (calls : ∥ HasCalls origin told (history_of volume) ∥₁) where
+  least_size : (to at len size : ℕ) → to ≡ min (at + len) size → to ≤ size
+  least_size to at len size is = omega (arith, is)
+
+  read_in : (actor letter : ℕ) (path : List (List ℕ)) (at len : ℕ) (read : ReadProgress) → IsOnWay at read → IsTold (world_of now.shows volume) actor letter path at len (reading_of read) → IsReadIn (world_of now.shows volume) actor letter path at len read
+  read_in actor letter path at len read on_way fits = record {
+    mounted = fits.mounted;
+    reads = λ checkpoint stood keeps.
+        let r = fits.reads checkpoint stood keeps in
+        record {
+          file = r.file;
+          from = r.from_is;
+          to = r.to_is;
+          fits = record { under_way = on_way.under_way; end = least_size read.to at len (size_at checkpoint.cells read.node) r.to_is; bytes = r.bytes_are };
+        };
+  }
+
+  pub fits_world : IsTrue origin.tells → (actor : ℕ) (call : Call) (p : Progress) → IsBegunFor call p → FitsHistory origin told (history_of volume) actor call p → FitsWorld (world_of now.shows volume) actor call p
+  fits_world is_told actor call progress.Fresh begun fits = tt
+  fits_world is_told actor (Cread letter path at len) (progress.Read read) begun fits =
+      read_in actor letter path at len read begun
+      (∥∥₁_elim calls (now-prop (world_of now.shows volume) actor letter path at len (reading_of read)) (λ has.
+      let first = has.first is_told in
+      fits_here origin now told volume stands is_told no_texts has.calls first.0 first.1 has.answered actor letter path at len (reading_of read)
+      (fits is_told first.0 first.1 no_texts has.calls has.answered)))
+  fits_world is_told actor _ (progress.Read read) begun fits = absurd begun
+
+-- and what fits there fits the history
+pub now_fits : {D : Type 0} (origin now : Meaning) (told : List Call) (volume : Present D) → Stands origin now told volume → (actor : ℕ) (call : Call) (p : Progress)
+    → (IsTrue origin.tells → FitsNow (world_of now.shows volume) actor call p) → FitsHistory origin told (history_of volume) actor call p
+now_fits origin now told volume stands actor call progress.Fresh reads = tt
+now_fits origin now told volume stands actor (Cread letter path at len) (progress.Read read) reads = λ is_told w found texts calls answered.
+    fits_then origin now told volume stands is_told texts calls w found answered actor letter path at len read (reads is_told)
+now_fits origin now told volume stands actor _ (progress.Read read) reads = λ is_told w found texts calls answered. absurd (reads is_told)
+
+-- ---- as entries of other actors come
+
+none_of : (entry : Entry) (actor : ℕ) → entry.actor ≢ actor → numbers_of (entry ∷ []) actor ≡ []
+none_of entry actor apart =
+    elim (nat_eq entry.actor actor) as (λ b. nat_eq entry.actor actor ≡ b → numbers_of (entry ∷ []) actor ≡ []) [
+      | true ↦ λ same. absurd (apart (grind (arith, same)))
+      | false ↦ λ other. cc
+    ] refl
+
+pub fits_others : (origin : Meaning) (told : List Call) (other : Call) (history : List Entry) (entry : Entry) (actor : ℕ) (call : Call) (p : Progress) → entry.actor ≢ actor
+    → FitsHistory origin told history actor call p → FitsHistory origin (told ++ other ∷ []) (history ++ entry ∷ []) actor call p
+fits_others origin told other history entry actor call progress.Fresh apart fits = tt
+fits_others origin told other history entry actor call (progress.Read read) apart fits = λ is_told w found texts calls answered.
+    fits_last_lem texts calls w history (entry ∷ []) actor call (reading_of read) (none_of entry actor apart)
+    (fits is_told w found texts calls (answered-before calls told other history entry answered).0)
+
+-- ---- its turns
+
+-- as many as the bytes that the file has of the range take
+pub turns_on_way : (cells : Cells) (path : List (List ℕ)) (at len : ℕ) (read : ReadProgress) → IsReadingOf cells path at len (reading_of read) → all_turns read ≡ turns_of at (min len (size_at cells read.node - at))
+turns_on_way cells path at len read r =
+    let size = size_at cells read.node in
+    let range : read.to - read.from ≡ min len (size - at) = omega (arith, r.to_is, r.from_is) in
+    ap (λ n. turns_of read.from n) range ∙ ap (λ n. turns_of n (min len (size - at))) r.from_is
+
+-- one at least is left
+one_left : (all left : ℕ) → 1 ≤ all → 1 ≤ left → all - left + 1 ≤ all
+one_left all left some more = omega (arith, some, more)
+
+one_turn : (place count : ℕ) → 1 ≤ turns_of place count
+one_turn place count = omega arith
+
+pub had_below : (read : ReadProgress) → turns_had read + 1 ≤ all_turns read
+had_below read = one_left (all_turns read) (turns_left read) (one_turn read.from (read.to - read.from)) (one_turn (next_place read) (left_len read))
