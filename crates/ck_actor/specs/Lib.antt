@@ -5,3 +5,4 @@ pub mod Turned
 pub mod Place
 pub mod Completed
 pub mod Actor
+pub mod Played
