@@ -4,3 +4,4 @@ pub mod PlaceLemmas
 pub mod LeftLemmas
 pub mod ActorLemmas
 pub mod WorkedScripts
+pub mod PlayedLemmas
