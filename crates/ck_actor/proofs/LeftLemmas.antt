@@ -71,10 +71,10 @@ module _ (lines : List Line) (first : Standings) (counts : TurnCounts) (before :
     own : nat_eq line.actor line.actor ≡ true
     own = grind (arith, nat_tests)
 
-    seq_here : line.seq ≡ call_count (take passed lines) line.actor + 1
+    pub seq_here : line.seq ≡ call_count (take passed lines) line.actor + 1
     seq_here = own_number lines passed line line.actor numbered within is own
 
-    count_here : call_count (take (passed + 1) lines) line.actor ≡ call_count (take passed lines) line.actor + 1
+    pub count_here : call_count (take (passed + 1) lines) line.actor ≡ call_count (take passed lines) line.actor + 1
     count_here =
         let more : length (numbers_in (take passed lines) line.actor ++ line.seq ∷ []) ≡ length (numbers_in (take passed lines) line.actor) + 1 = simp length-append (omega arith) in
         ap (λ (numbers : List ℕ). length numbers) (own_line lines passed line line.actor within is own) ∙ more
