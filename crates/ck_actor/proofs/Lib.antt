@@ -5,3 +5,4 @@ pub mod LeftLemmas
 pub mod ActorLemmas
 pub mod WorkedScripts
 pub mod PlayedLemmas
+pub mod StepLemmas
