@@ -94,7 +94,7 @@ own_at lines at line actor within is own =
 
 -- ---- the call of a line
 
-calls_as_many : (lines : List Line) (actor : ℕ) → length (calls_of (calls_in lines) actor) ≡ length (numbers_in lines actor)
+pub calls_as_many : (lines : List Line) (actor : ℕ) → length (calls_of (calls_in lines) actor) ≡ length (numbers_in lines actor)
 calls_as_many [] actor = refl
 calls_as_many (line ∷ lines) actor =
     elim (nat_eq line.actor actor) as (λ b. length (cons_option (cond b (Some line.call) None) (calls_of (calls_in lines) actor)) ≡ length (cons_option (cond b (Some line.seq) None) (numbers_in lines actor))) [

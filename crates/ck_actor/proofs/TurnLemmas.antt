@@ -10,82 +10,41 @@ use Rattle.ck_script.specs.declared.line.Line.{Line}
 use Rattle.ck_script.specs.Numbered.{calls_in}
 use Rattle.ck_actor.specs.Counts.{TurnCounts}
 use Rattle.ck_actor.specs.Turns.{Standing, at_first, going_on, gone_on, turned, with_turn, answering_turn, is_left, answered_by}
-
--- where all actors stand
-abbrev pub Standings : Type 0
-Standings = ℕ → Standing
-
--- the number of the first call of an actor that isn't through
-abbrev pub seq_at : Standings → ℕ → ℕ
-seq_at at actor = (at actor).through + 1
-
-abbrev pub place_of : Line → ℕ × ℕ
-place_of line = (line.actor, line.seq)
+use Rattle.ck_actor.specs.Walk.{Standings, seq_at, place_of, next_call, behind, answered_now, standing_after, answered_in, left_behind, moved_to, with_count, Agrees, IsWalked}
 
 module _ (lines : List Line) where
-  abbrev pub next_call : Standings → ℕ → Option Call
-  next_call at actor = call_at (calls_in lines) actor (seq_at at actor)
-
-  -- where they stand behind a turn
-  abbrev pub behind : TurnCounts → Standings → ℕ → Standings
-  behind counts at actor = option_map_or (λ call. with_turn actor (counts actor (seq_at at actor)) at) (next_call at actor) at
-
-  -- what it answers
-  abbrev pub answered_now : TurnCounts → Standings → ℕ → List (ℕ × ℕ)
-  answered_now counts at actor =
-      option_map_or
-      (λ call. if nat_eq ((at actor).had + 1) (answering_turn call (counts actor (seq_at at actor))) then (actor, seq_at at actor) ∷ [] else [])
-      (next_call at actor) []
-
-  -- the same of turns
-  abbrev pub standing_after : TurnCounts → Standings → List ℕ → Standings
-  standing_after counts at [] = at
-  standing_after counts at (actor ∷ turns) = standing_after counts (behind counts at actor) turns
-
-  abbrev pub answered_in : TurnCounts → Standings → List ℕ → List (ℕ × ℕ)
-  answered_in counts at [] = []
-  answered_in counts at (actor ∷ turns) = answered_now counts at actor ++ answered_in counts (behind counts at actor) turns
-
-  -- the calls that are left
-  abbrev pub left_behind : TurnCounts → Standings → List (ℕ × ℕ)
-  left_behind counts at = list_map place_of (filter (is_left counts at) lines)
-
   -- what turns answer, and then what is left
   answered_by-parts : (counts : TurnCounts) (at : Standings) (turns : List ℕ) →
-      answered_by lines counts at turns ≡ answered_in counts at turns ++ left_behind counts (standing_after counts at turns)
+      answered_by lines counts at turns ≡ answered_in lines counts at turns ++ left_behind lines counts (standing_after lines counts at turns)
   answered_by-parts counts at [] = refl
   answered_by-parts counts at (actor ∷ turns) =
-      elim (next_call at actor) as (λ o.
+      elim (next_call lines at actor) as (λ o.
       option_map_or
       (λ call. (if nat_eq ((at actor).had + 1) (answering_turn call (counts actor (seq_at at actor))) then (actor, seq_at at actor) ∷ [] else []) ++ answered_by lines counts (with_turn actor (counts actor (seq_at at actor)) at) turns)
       o (answered_by lines counts at turns)
       ≡ (option_map_or (λ call. if nat_eq ((at actor).had + 1) (answering_turn call (counts actor (seq_at at actor))) then (actor, seq_at at actor) ∷ [] else []) o []
-      ++ answered_in counts (option_map_or (λ call. with_turn actor (counts actor (seq_at at actor)) at) o at) turns)
-      ++ left_behind counts (standing_after counts (option_map_or (λ call. with_turn actor (counts actor (seq_at at actor)) at) o at) turns)) [
+      ++ answered_in lines counts (option_map_or (λ call. with_turn actor (counts actor (seq_at at actor)) at) o at) turns)
+      ++ left_behind lines counts (standing_after lines counts (option_map_or (λ call. with_turn actor (counts actor (seq_at at actor)) at) o at) turns)) [
         | None ↦ answered_by-parts counts at turns
         | Some call ↦
             let next = with_turn actor (counts actor (seq_at at actor)) at in
             let now : List (ℕ × ℕ) = if nat_eq ((at actor).had + 1) (answering_turn call (counts actor (seq_at at actor))) then (actor, seq_at at actor) ∷ [] else [] in
             ap (λ rest. now ++ rest) (answered_by-parts counts next turns)
-            ∙ sym (append_assoc now (answered_in counts next turns) (left_behind counts (standing_after counts next turns)))
+            ∙ sym (append_assoc now (answered_in lines counts next turns) (left_behind lines counts (standing_after lines counts next turns)))
       ]
 
   -- one more turn behind those
   standing_after-more : (counts : TurnCounts) (at : Standings) (turns : List ℕ) (actor : ℕ) →
-      standing_after counts at (turns ++ actor ∷ []) ≡ behind counts (standing_after counts at turns) actor
+      standing_after lines counts at (turns ++ actor ∷ []) ≡ behind lines counts (standing_after lines counts at turns) actor
   standing_after-more counts at [] actor = refl
-  standing_after-more counts at (first ∷ turns) actor = standing_after-more counts (behind counts at first) turns actor
+  standing_after-more counts at (first ∷ turns) actor = standing_after-more counts (behind lines counts at first) turns actor
 
   answered_in-more : (counts : TurnCounts) (at : Standings) (turns : List ℕ) (actor : ℕ) →
-      answered_in counts at (turns ++ actor ∷ []) ≡ answered_in counts at turns ++ answered_now counts (standing_after counts at turns) actor
-  answered_in-more counts at [] actor = append-nil (answered_now counts at actor)
+      answered_in lines counts at (turns ++ actor ∷ []) ≡ answered_in lines counts at turns ++ answered_now lines counts (standing_after lines counts at turns) actor
+  answered_in-more counts at [] actor = append-nil (answered_now lines counts at actor)
   answered_in-more counts at (first ∷ turns) actor =
-      ap (λ rest. answered_now counts at first ++ rest) (answered_in-more counts (behind counts at first) turns actor)
-      ∙ sym (append_assoc (answered_now counts at first) (answered_in counts (behind counts at first) turns) (answered_now counts (standing_after counts (behind counts at first) turns) actor))
-
--- an actor stands elsewhere
-abbrev pub moved_to : ℕ → Standing → Standings → Standings
-moved_to actor standing at other = if nat_eq other actor then standing else at other
+      ap (λ rest. answered_now lines counts at first ++ rest) (answered_in-more counts (behind lines counts at first) turns actor)
+      ∙ sym (append_assoc (answered_now lines counts at first) (answered_in lines counts (behind lines counts at first) turns) (answered_now lines counts (standing_after lines counts (behind lines counts at first) turns) actor))
 
 with_turn-moved : (actor count : ℕ) (at : Standings) → with_turn actor count at ≡ moved_to actor (turned count (at actor)) at
 with_turn-moved actor count at i other = each other i
@@ -96,20 +55,6 @@ with_turn-moved actor count at i other = each other i
           | true ↦ λ same. let is : other ≡ actor = grind (arith, same) in ap (λ n. turned count (at n)) is
           | false ↦ λ _. refl
         ] refl
-
--- a call has had so many turns already
-abbrev pub with_count : ℕ → ℕ → ℕ → TurnCounts → TurnCounts
-with_count actor seq count counts other n = if nat_eq other actor then (if nat_eq n seq then count else counts other n) else counts other n
-
--- these turns are known to have been taken by the calls that are through, and fewer than they take by the others
-pub record Agrees (counts : TurnCounts) (at : Standings) (known : TurnCounts) : Type 0 where
-  pub through : (actor seq : ℕ) → seq ≤ (at actor).through → counts actor seq ≡ known actor seq
-  pub going : (actor : ℕ) → (at actor).had < counts actor (seq_at at actor)
-
--- so far the turns answered these calls and led to where the actors stand, however many turns the calls take that aren't through
-abbrev pub IsWalked : List Line → Standings → TurnCounts → List ℕ → List (ℕ × ℕ) → Type 0
-IsWalked lines at known turns answered =
-    (counts : TurnCounts) → Agrees counts at known → (answered_in lines counts at_first turns ≡ answered) × (standing_after lines counts at_first turns ≡ at)
 
 -- a call is answered at its last turn
 abbrev pub IsAtLast : Call → Type 0
@@ -146,7 +91,7 @@ turned-going count standing less = let is : nat_lt (standing.had + 1) count ≡ 
 turned-gone : (count : ℕ) (standing : Standing) → count ≡ standing.had + 1 → turned count standing ≡ gone_on standing
 turned-gone count standing same = let is : nat_lt (standing.had + 1) count ≡ false = grind (arith, nat_tests) in ap (λ b. if b then going_on standing else gone_on standing) is
 
-same_number : (m n : ℕ) → nat_eq m n ≡ true → m ≡ n
+pub same_number : (m n : ℕ) → nat_eq m n ≡ true → m ≡ n
 same_number m n h = grind (arith, nat_tests)
 
 -- what agrees with the turns behind one more agreed before it

@@ -114,12 +114,7 @@ impl Actor {
         let line = &lines[self.place.line];
         let progress = &mut self.progress;
         match volume.event(
-            alloc,
-            line.actor,
-            line.seq,
-            self.began,
-            &line.call,
-            progress,
+            alloc, line.actor, line.seq, self.began, &line.call, progress,
         ) {
             Turn::More => {}
             Turn::Answered => self.place.step(lines),

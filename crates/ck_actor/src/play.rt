@@ -1,4 +1,4 @@
-ghost use Rattle.std.specs.Prelude.{◌≡◌, ◌≤◌, [], None, OnOk, OnErr, IsTrue, length};
+ghost use Rattle.std.specs.Prelude.{◌≡◌, ◌≤◌, ◌<◌, ◌+◌, ℕ, [], None, OnOk, OnErr, IfOk, IsTrue, length, slice_get, take as list_take};
 ghost use Rattle.std.specs.List.{AllByRecursion};
 ghost use Rattle.ck_model.specs.History.{IsOfScript, call_at};
 ghost use Rattle.ck_model.specs.Placed.{NoneGone};
@@ -10,7 +10,10 @@ ghost use Rattle.ck_engine.specs.Recovery.{Recovers};
 ghost use Rattle.ck_volume.specs.Told.{AreAnswered};
 ghost use Rattle.ck_volume.specs.TopCuts.{synced_count};
 ghost use Rattle.ck_volume.specs.Volume.{broken_of, committed_of, disk_of, history_of, origin_of, spoilt_of, table_of, told_of, IsBegun};
+ghost use Rattle.ck_actor.specs.Counts.{TurnCounts};
+ghost use Rattle.ck_actor.specs.Played.{AreBegun, AreFinished, AreTurned, HasStepped, IsPlaying, IsUnderWay};
 ghost use Rattle.ck_actor.specs.Turns.{parsed, Follows};
+ghost use Rattle.ck_actor.specs.Walk.{Standings};
 
 use crate::actor::Actor;
 use ck_disk::Disk;
@@ -21,7 +24,9 @@ use ck_volume::Volume;
 use std::alloc::Global;
 
 /// The actors with the numbers from 1 to 64, before all lines.
-fn actors(alloc: Global) -> Result<Vec<Actor>, NoMemory> {
+fn actors(alloc: Global) -> Result<Vec<Actor>, NoMemory>
+    ensures { IfOk result (λ actors. AreBegun actors.items) }
+{
     let mut actors = Vec::with_capacity(alloc, 64)?;
     for number in 1..65 {
         actors.push(Actor::new(number))?;
@@ -29,32 +34,64 @@ fn actors(alloc: Global) -> Result<Vec<Actor>, NoMemory> {
     Ok(actors)
 }
 
-/// Takes the turn of an actor, or of the background, whose number is 0.
+/// Takes the turn of the actor at a place, whose number is one more.
+fn take_own<D: Disk, C: Clock>(
+    alloc: Global,
+    volume: &mut Volume<D>,
+    script: &Script,
+    clock: &mut C,
+    actors: &mut [Actor],
+    place: usize,
+)
+    requires within { place < 64 }
+    requires under_way { IsPlaying D.means (origin_of volume.old) (C.means clock.old) script.now.calls volume.old actors.old }
+    requires built { AllByRecursion (λ line. IsBuilt line.call) script.now.calls }
+    ensures stepped { (at : Standings) (known : TurnCounts) → IsUnderWay D.means (origin_of volume.old) (C.means clock.old) script.now.calls volume.old actors.old at known
+        → HasStepped D.means (origin_of volume.old) (C.means clock.old) script.now.calls (place + 1) at known volume.old volume.new actors.new }
+    ensures clock { C.means clock.new ≡ C.means clock.old }
+{
+    actors[place].turn(alloc, volume, clock, script);
+}
+
+/// Takes the turn with this number, counted from 0, of those that the script lists: an actor's, or the
+/// background's.
 fn take<D: Disk, C: Clock>(
     alloc: Global,
     volume: &mut Volume<D>,
     script: &Script,
     clock: &mut C,
     actors: &mut [Actor],
-    number: u32,
-) {
+    at: usize,
+)
+    requires within { at < length script.now.turns }
+    requires turned { AreTurned D.means (origin_of volume.old) (C.means clock.old) script.now.calls (list_take at script.now.turns) volume.old actors.old }
+    requires built { AllByRecursion (λ line. IsBuilt line.call) script.now.calls }
+    ensures turned { AreTurned D.means (origin_of volume.old) (C.means clock.old) script.now.calls (list_take (at + 1) script.now.turns) volume.new actors.new }
+    ensures clock { C.means clock.new ≡ C.means clock.old }
+{
+    let number = script.turns.items()[at];
     if number == 0 {
         volume.background();
     } else {
-        actors[number as usize - 1].turn(alloc, volume, clock, script);
+        take_own(alloc, volume, script, clock, actors, number as usize - 1);
     }
 }
 
 /// Takes the turns that the script lists.
-fn take_turns<D: Disk, C: Clock>(
+fn take_all<D: Disk, C: Clock>(
     alloc: Global,
     volume: &mut Volume<D>,
     script: &Script,
     clock: &mut C,
     actors: &mut [Actor],
-) {
-    for turn in script.turns.items() {
-        take(alloc, volume, script, clock, actors, *turn);
+)
+    requires turned { AreTurned D.means (origin_of volume.old) (C.means clock.old) script.now.calls [] volume.old actors.old }
+    requires built { AllByRecursion (λ line. IsBuilt line.call) script.now.calls }
+    ensures turned { AreTurned D.means (origin_of volume.old) (C.means clock.old) script.now.calls script.now.turns volume.new actors.new }
+    ensures clock { C.means clock.new ≡ C.means clock.old }
+{
+    for at in 0..script.turns.items().len() {
+        take(alloc, volume, script, clock, actors, at);
     }
 }
 
@@ -64,11 +101,18 @@ fn finish<D: Disk, C: Clock>(
     volume: &mut Volume<D>,
     script: &Script,
     clock: &mut C,
-    actor: &mut Actor,
+    actors: &mut [Actor],
     line: usize,
-) {
-    while actor.is_left(line) {
-        actor.turn(alloc, volume, clock, script);
+)
+    requires within { line < length script.now.calls }
+    requires finished { AreFinished D.means (origin_of volume.old) (C.means clock.old) script.now.calls script.now.turns line volume.old actors.old }
+    requires built { AllByRecursion (λ line. IsBuilt line.call) script.now.calls }
+    ensures finished { AreFinished D.means (origin_of volume.old) (C.means clock.old) script.now.calls script.now.turns (line + 1) volume.new actors.new }
+    ensures clock { C.means clock.new ≡ C.means clock.old }
+{
+    let place = script.calls.items()[line].actor as usize - 1;
+    while actors[place].is_left(line) {
+        take_own(alloc, volume, script, clock, actors, place);
     }
 }
 
@@ -79,11 +123,14 @@ fn finish_all<D: Disk, C: Clock>(
     script: &Script,
     clock: &mut C,
     actors: &mut [Actor],
-) {
-    let lines = script.calls.items();
-    for at in 0..lines.len() {
-        let actor = &mut actors[lines[at].actor as usize - 1];
-        finish(alloc, volume, script, clock, actor, at);
+)
+    requires turned { AreTurned D.means (origin_of volume.old) (C.means clock.old) script.now.calls script.now.turns volume.old actors.old }
+    requires built { AllByRecursion (λ line. IsBuilt line.call) script.now.calls }
+    ensures finished { AreFinished D.means (origin_of volume.old) (C.means clock.old) script.now.calls script.now.turns (length script.now.calls) volume.new actors.new }
+    ensures clock { C.means clock.new ≡ C.means clock.old }
+{
+    for line in 0..script.calls.items().len() {
+        finish(alloc, volume, script, clock, actors, line);
     }
 }
 
@@ -119,7 +166,7 @@ pub fn play<D: Disk, C: Clock>(
 {
     volume.reserve(script.calls.items().len() as u32)?;
     let mut actors = actors(alloc)?;
-    take_turns(alloc, volume, script, clock, &mut actors);
+    take_all(alloc, volume, script, clock, &mut actors);
     finish_all(alloc, volume, script, clock, &mut actors);
     volume.drain();
     Ok(())
