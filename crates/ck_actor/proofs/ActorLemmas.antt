@@ -1,29 +1,41 @@
--- The entries of an actor, and its calls before its place.
-use Rattle.std.proofs.Common.{◌≡◌, ◌≤◌, ◌<◌, ℕ, zero, suc, ◌+◌, ◌-◌, true, Some, None, IfSome, List, [], ◌∷◌, ◌++◌, length, take, get_or, nat_eq, if◌then◌else◌, inl, inr, sym, ap, subst, ◌∙◌, arith, length-append}
-use Rattle.std.specs.Prelude.{slice_get}
+-- The entries of an actor, its calls before its place, and the call of its line.
+use Rattle.std.proofs.Common.{◌≡◌, ◌≤◌, ◌<◌, ℕ, zero, suc, ◌+◌, ◌-◌, true, IsTrue, Option, Some, None, IfSome, List, [], ◌∷◌, ◌++◌, length, take, get_or, nat_eq, if◌then◌else◌, inl, inr, refl, sym, ap, subst, ◌∙◌, arith, length-append}
+use Rattle.std.specs.Prelude.{min, slice_get}
 use Rattle.std.specs.List.{cons_option, AllByRecursion}
-use Rattle.std.proofs.lemmas.Option.{slice_get_cases}
+use Rattle.std.specs.Option.{option_and_then}
+use Rattle.std.specs.Result.{result_ok}
+use Rattle.std.proofs.lemmas.Option.{slice_get_read, slice_get_past, slice_get_cases}
 use Rattle.std.proofs.lemmas.Bool.Decides.{nat_tests}
 use Rattle.std.proofs.lemmas.List.Elements.{filter_map-append}
-use Rattle.ck_model.specs.declared.entry.Entry.{Entry}
-use Rattle.ck_model.specs.History.{numbers_of}
-use Rattle.ck_script.specs.declared.line.Line.{Line}
-use Rattle.ck_script.specs.Numbered.{numbers_in}
-use Rattle.std.specs.Prelude.{min}
+use Rattle.ck_disk.specs.Disk.{Meaning}
 use Rattle.ck_model.specs.declared.call.Call.{Call}
-use Rattle.ck_model.specs.declared.call.Call.TheVariants.{Cread}
-use Rattle.ck_model.specs.Cells.{size_at}
-use Rattle.ck_model.specs.History.{CallsBy, state}
+use Rattle.ck_model.specs.declared.call.Call.TheVariants.{Backup, Cread, Full, Nodata}
+use Rattle.ck_model.specs.declared.entry.Entry.{Entry}
+use Rattle.ck_model.specs.declared.reply.Reply.{Reply}
+use Rattle.ck_model.specs.declared.reply.Reply.TheVariants.{Bytes}
+use Rattle.ck_model.specs.Cells.{Cells, size_at}
+use Rattle.ck_model.specs.History.{CallsBy, call_at, calls_of, numbers_of, state}
 use Rattle.ck_model.specs.Streams.{Texts}
+use Rattle.ck_model.specs.Walk.{file_at}
 use Rattle.ck_model.specs.World.{World}
 use Rattle.ck_laws.specs.Laws.{frozen}
 use Rattle.ck_laws.specs.Fits.{FitsCall}
+use Rattle.ck_script.specs.declared.line.Line.{Line}
+use Rattle.ck_script.specs.Numbered.{calls_in, numbers_in, IsNumbered}
+use Rattle.ck_files.specs.Built.{IsBuilt}
 use Rattle.ck_read.specs.declared.progress.ReadProgress.{ReadProgress}
 use Rattle.ck_read.specs.Progress.{all_turns, turns_had, turns_of}
-use Rattle.ck_volume.specs.Progress.{reading_of}
+use Rattle.ck_engine.specs.Recovery.{Recovers}
+use Rattle.ck_volume.specs.declared.event.Progress.{Progress}
+use Rattle.ck_volume.specs.declared.event.Progress.TheVariants.{Fresh, Read}
+use Rattle.ck_volume.specs.Progress.{had_of, reading_of, FitsHistory, IsBegunFor, IsLastOf}
+use Rattle.ck_volume.specs.Told.{AreAnswered}
 use Rattle.ck_volume.proofs.FitsLaws.{had_below, turns_on_way}
-use Rattle.ck_actor.specs.Counts.{AsFrozen, frozen_on, frozen_turns}
-use Rattle.ck_actor.proofs.PlaceLemmas.{own_at, own_line, left_at}
+use Rattle.ck_actor.specs.declared.place.Place.{Place}
+use Rattle.ck_actor.specs.Actor.{IsOnWay, OnRead}
+use Rattle.ck_actor.specs.Place.{IsFound}
+use Rattle.ck_actor.specs.Counts.{AsFrozen, FrozenMaps, Takes, frozen_on, frozen_turns}
+use Rattle.ck_actor.proofs.PlaceLemmas.{all_before, calls_as_many, left_at, own_at, own_call, own_line, own_number}
 
 numbers_of-more : (history : List Entry) (entry : Entry) (actor : ℕ) → entry.actor ≡ actor → numbers_of (history ++ entry ∷ []) actor ≡ numbers_of history actor ++ entry.seq ∷ []
 numbers_of-more history entry actor own =
@@ -67,19 +79,117 @@ each_at P (y ∷ xs) (suc at) x all within is = each_at P xs at x all.1 (omega (
 pub longer : (history : List Entry) (entry : Entry) → length (history ++ entry ∷ []) ≡ length history + 1
 longer history entry = simp length-append (omega arith)
 
--- ---- the turns of a read that is on its way (not checked yet)
+-- ---- the call of its line
+
+lengthen : (xs : List ℕ) (x : ℕ) → length (xs ++ x ∷ []) ≡ length xs + 1
+lengthen xs x = simp length-append (omega arith)
+
+-- it is the next one of the actor
+pub next_call_here : (lines : List Line) (at : ℕ) (line : Line) (actor : ℕ) → IsNumbered lines → at < length lines → line ≡ get_or lines at line → nat_eq line.actor actor ≡ true
+    → call_at (calls_in lines) actor (length (numbers_in (take at lines) actor) + 1) ≡ Some line.call
+next_call_here lines at line actor numbered within is own =
+    ap (call_at (calls_in lines) actor) (sym (own_number lines at line actor numbered within is own)) ∙ own_call lines at line actor numbered within is own
+
+-- behind it one more is through
+pub one_through : (lines : List Line) (at next : ℕ) (line : Line) (actor : ℕ) → at < length lines → line ≡ get_or lines at line → nat_eq line.actor actor ≡ true
+    → numbers_in (take next lines) actor ≡ numbers_in (take (at + 1) lines) actor → length (numbers_in (take next lines) actor) ≡ length (numbers_in (take at lines) actor) + 1
+one_through lines at next line actor within is own behind =
+    ap (λ (numbers : List ℕ). length numbers) (behind ∙ own_line lines at line actor within is own) ∙ lengthen (numbers_in (take at lines) actor) line.seq
+
+-- and behind all lines there is none
+pub no_call_behind : (lines : List Line) (at actor : ℕ) → length lines ≤ at → call_at (calls_in lines) actor (length (numbers_in (take at lines) actor) + 1) ≡ None
+no_call_behind lines at actor past =
+    let all : length (numbers_in (take at lines) actor) ≡ length (numbers_in lines actor) = ap (λ (numbers : List ℕ). length numbers) (all_before lines at actor past) in
+    let many : length (numbers_in (take at lines) actor) + 1 ≡ suc (length (calls_of (calls_in lines) actor)) = omega (arith, all, calls_as_many lines actor) in
+    ap (call_at (calls_in lines) actor) many ∙ slice_get_past (calls_of (calls_in lines) actor) (length (calls_of (calls_in lines) actor)) (omega arith)
+
+some_line : (x y : Line) → ◌≡◌ {A = Option Line} (Some x) (Some y) → x ≡ y
+some_line x y h = cc
+
+module _ (origin : Meaning) (told : List Call) (lines : List Line) (history : List Entry) (place : Place) (line : Line) (within : place.line < length lines) (is : line ≡ get_or lines place.line line) where
+  there : slice_get lines place.line ≡ Some line
+  there = slice_get_read lines (length lines) place.line line refl within is
+
+  -- a call on its way is that of this line
+  pub begun_here : (progress : Progress) → IsOnWay origin told lines history place progress → IsBegunFor line.call progress
+  begun_here Fresh on_way = tt
+  begun_here (Read read) on_way = subst (λ (l : Line). IsBegunFor l.call (Read read)) (some_line on_way.line line (sym on_way.line_is ∙ there)) on_way.begun
+
+  pub fits_here : (progress : Progress) → line.actor ≡ place.actor → IsOnWay origin told lines history place progress → FitsHistory origin told history line.actor line.call progress
+  fits_here Fresh own on_way = tt
+  fits_here (Read read) own on_way =
+      subst (λ n. FitsHistory origin told history n line.call (Read read)) (sym own)
+      (subst (λ (l : Line). FitsHistory origin told history place.actor l.call (Read read)) (some_line on_way.line line (sym on_way.line_is ∙ there)) on_way.fits)
+
+  pub on_way_here : (progress : Progress) → line.actor ≡ place.actor → IsBegunFor line.call progress → FitsHistory origin told history line.actor line.call progress → IsOnWay origin told lines history place progress
+  on_way_here Fresh own begun fits = tt
+  on_way_here (Read read) own begun fits = record {
+    line = line;
+    line_is = there;
+    own = own;
+    begun = begun;
+    fits = subst (λ n. FitsHistory origin told history n line.call (Read read)) own fits;
+  }
+
+-- ---- the place of a call that is on its way
+
+none_some : (o : Option Line) (x : Line) → o ≡ None → o ≡ Some x → ⊥
+none_some o x none some = cc
+
+pub found_here : (origin : Meaning) (told : List Call) (lines : List Line) (history : List Entry) (place : Place) (progress : Progress) → IsOnWay origin told lines history place progress → OnRead progress (IsFound lines place)
+found_here origin told lines history place Fresh on_way = tt
+found_here origin told lines history place (Read read) on_way = record {
+  within = elim (slice_get_cases lines place.line).1 [
+    | inl there ↦ let within = there.1 in omega (arith, within)
+    | inr past ↦ absurd (none_some (slice_get lines place.line) on_way.line (slice_get_past lines place.line past.0) on_way.line_is)
+  ];
+  own = subst (λ found. IfSome found (λ line. line.actor ≡ place.actor)) (sym on_way.line_is) on_way.own;
+}
+
+pub on_way_still : (origin : Meaning) (told : List Call) (lines : List Line) (history : List Entry) (place next : Place) (progress : Progress) → OnRead progress (next ≡ place) → IsOnWay origin told lines history place progress
+    → IsOnWay origin told lines history next progress
+on_way_still origin told lines history place next Fresh same on_way = tt
+on_way_still origin told lines history place next (Read read) same on_way = subst (λ (p : Place). IsOnWay origin told lines history p (Read read)) (sym same) on_way
+
+-- ---- the turns of a read that is on its way
 
 -- the map under its letter is the one that it reads, so the frozen maps tell as many turns as its range has
 frozen_on_way : (texts : Texts) (calls : CallsBy) (w : World) (history : List Entry) (actor letter : ℕ) (path : List (List ℕ)) (at len : ℕ) (read : ReadProgress)
     → FitsCall texts calls w history actor letter path at len (reading_of read)
     → frozen_turns (frozen texts calls w history) (state texts calls w history) actor (Cread letter path at len) ≡ Some (all_turns read)
 frozen_on_way texts calls w history actor letter path at len read fits =
-    let turns = turns_on_way fits.cells path at len read fits.read in
-    simp (fits.mounted, fits.cells_are, fits.read.file, turns)
+    let counted : Cells → Option ℕ = λ cells. option_and_then (λ node. Some (turns_of at (min len (size_at cells node - at)))) (result_ok (file_at cells path)) in
+    ap (λ o. option_and_then counted (option_and_then (frozen texts calls w history) o)) fits.mounted
+    ∙ ap (λ o. option_and_then counted o) fits.cells_are
+    ∙ ap (λ found. option_and_then (λ node. Some (turns_of at (min len (size_at fits.cells node - at)))) (result_ok found)) fits.read.file
+    ∙ ap (λ n. Some n) (sym (turns_on_way fits.cells path at len read fits.read))
 
 -- and with the present one it has had no more of them
-pub as_frozen_on_way : (texts : Texts) (calls : CallsBy) (w : World) (history : List Entry) (actor letter : ℕ) (path : List (List ℕ)) (at len : ℕ) (read : ReadProgress)
+as_frozen_on_way : (texts : Texts) (calls : CallsBy) (w : World) (history : List Entry) (actor letter : ℕ) (path : List (List ℕ)) (at len : ℕ) (read : ReadProgress)
     → FitsCall texts calls w history actor letter path at len (reading_of read)
     → AsFrozen (frozen_turns (frozen texts calls w history) (state texts calls w history) actor (Cread letter path at len)) (turns_had read + 1)
 as_frozen_on_way texts calls w history actor letter path at len read fits =
     subst (λ turns. AsFrozen turns (turns_had read + 1)) (sym (frozen_on_way texts calls w history actor letter path at len read fits)) (had_below read)
+
+-- the first turn of a read is one that it may take
+first_turn : (maps : FrozenMaps) (w : World) (actor letter : ℕ) (path : List (List ℕ)) (at len : ℕ) → AsFrozen (frozen_turns maps w actor (Cread letter path at len)) 1
+first_turn maps w actor letter path at len =
+    elim (frozen_on maps w actor letter) as (λ o. AsFrozen (option_and_then (λ cells. option_and_then (λ node. Some (turns_of at (min len (size_at cells node - at)))) (result_ok (file_at cells path))) o) 1) [
+      | None ↦ refl
+      | Some cells ↦ elim (result_ok (file_at cells path)) as (λ o. AsFrozen (option_and_then (λ node. Some (turns_of at (min len (size_at cells node - at)))) o) 1) [ None ↦ refl | Some node ↦ omega arith ]
+    ]
+
+-- a call that is answered has had as many turns as it may take
+pub takes_of : (origin : Meaning) (told : List Call) (history : List Entry) (actor : ℕ) (call : Call) (reply : Reply) (progress : Progress) → IsBuilt call → IsBegunFor call progress → FitsHistory origin told history actor call progress
+    → IsLastOf call reply (had_of progress + 1) → IsTrue origin.tells → (w : World) → Recovers origin.shows w → (texts : Texts) (calls : CallsBy) → AreAnswered calls told history
+    → Takes (frozen_turns (frozen texts calls w history) (state texts calls w history) actor call) call reply (had_of progress + 1)
+takes_of origin told history actor (Cread letter path at len) (Bytes bytes) progress built begun fits last is_told w found texts calls answered = record { some = omega arith; told = λ _. last }
+takes_of origin told history actor (Cread letter path at len) _ Fresh built begun fits last is_told w found texts calls answered =
+    record { some = omega arith; told = λ _. first_turn (frozen texts calls w history) (state texts calls w history) actor letter path at len }
+takes_of origin told history actor (Cread letter path at len) _ (Read read) built begun fits last is_told w found texts calls answered =
+    record { some = omega arith; told = λ _. as_frozen_on_way texts calls w history actor letter path at len read (fits is_told w found texts calls answered) }
+takes_of origin told history actor (Full letter) reply progress built begun fits last is_told w found texts calls answered = absurd built
+takes_of origin told history actor (Backup letter later) reply progress built begun fits last is_told w found texts calls answered = absurd built
+takes_of origin told history actor (Nodata name synchronous) reply progress built begun fits last is_told w found texts calls answered = absurd built
+takes_of origin told history actor _ reply Fresh built begun fits last is_told w found texts calls answered = record { some = omega arith; told = λ _. refl }
+takes_of origin told history actor _ reply (Read read) built begun fits last is_told w found texts calls answered = absurd begun

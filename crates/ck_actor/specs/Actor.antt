@@ -19,6 +19,10 @@ use Rattle.ck_actor.specs.Place.{answered_count, call_count, next_number}
 abbrev pub number_of : Actor → ℕ
 number_of actor = actor.place.actor
 
+-- before its first turn
+abbrev pub first : ℕ → Actor
+first number = record { place = record { actor = number; line = 0 }; began = 0; progress = Fresh }
+
 -- a turn begins the next call where none is on its way
 abbrev pub begun_by : Progress → Option ℕ → Option ℕ
 begun_by Fresh next = next

@@ -1,16 +1,16 @@
-ghost use Rattle.std.specs.Prelude.{◌≡◌, ◌≤◌, ◌<◌, ◌+◌, ◌↔◌, List, [], None, IsTrue, length, nat_le};
+ghost use Rattle.std.specs.Prelude.{◌≡◌, ◌≤◌, ◌<◌, ◌+◌, ◌↔◌, List, [], None, IsTrue, length, nat_le, take};
 ghost use Rattle.std.specs.List.{AllByRecursion};
 ghost use Rattle.ck_disk.specs.Disk.{Meaning};
 ghost use Rattle.ck_io.specs.Clock.{ClockMeaning};
 ghost use Rattle.ck_model.specs.declared.call.Call.{Call};
 ghost use Rattle.ck_model.specs.History.{call_at};
 ghost use Rattle.ck_script.specs.declared.line.Line.{Line as Lines};
-ghost use Rattle.ck_script.specs.Numbered.{calls_in, IsNumbered};
+ghost use Rattle.ck_script.specs.Numbered.{calls_in, numbers_in, IsNumbered};
 ghost use Rattle.ck_files.specs.Built.{IsBuilt};
 ghost use Rattle.ck_volume.specs.Told.{AreAnswered};
 ghost use Rattle.ck_volume.specs.TopCuts.{synced_count};
 ghost use Rattle.ck_volume.specs.Volume.{committed_of, history_of, origin_of, room_of, spoilt_of, told_of};
-ghost use Rattle.ck_actor.specs.Actor.{begins as begun_next, calls_left, number_of, standing_of, HasMoment, IsThrough, OnRead, Stands};
+ghost use Rattle.ck_actor.specs.Actor.{begins as begun_next, calls_left, first, number_of, standing_of, HasMoment, IsThrough, OnRead, Stands};
 ghost use Rattle.ck_actor.specs.Place.{IsFound};
 ghost use Rattle.ck_actor.specs.Turned.{answered_by_now, IsTurn};
 ghost use Rattle.ck_actor.specs.Turns.{at_first};
@@ -43,10 +43,7 @@ pub struct Actor {
 impl Actor {
     /// No call of it was answered yet.
     pub fn new(number: u32) -> Actor
-        ensures number { number_of result ≡ number }
-        ensures stands { (origin : Meaning) (told : List Call) (lines : List Lines) → Stands origin told lines [] result }
-        ensures moment { (clock : ClockMeaning) → HasMoment clock result }
-        ensures standing { (lines : List Lines) → standing_of lines result ≡ at_first number }
+        ensures { result ≡ first number }
     {
         Actor {
             place: Place::new(number),
@@ -71,6 +68,22 @@ impl Actor {
         ensures { result ≡ nat_le self.now.place.line line }
     {
         self.place.line <= line
+    }
+
+    /// Goes to the line of its next call, unless one is on its way.
+    fn seek(&mut self, lines: &[Line])
+        requires { OnRead self.old.progress (IsFound lines.now self.old.place) }
+        ensures found { IsFound lines.now self.new.place }
+        ensures actor { self.new.place.actor ≡ self.old.place.actor }
+        ensures between { numbers_in (take self.new.place.line lines.now) self.old.place.actor ≡ numbers_in (take self.old.place.line lines.now) self.old.place.actor }
+        ensures on_read { OnRead self.old.progress (self.new.place ≡ self.old.place) }
+        ensures progress { self.new.progress ≡ self.old.progress }
+        ensures began { self.new.began ≡ self.old.began }
+    {
+        match self.progress {
+            Progress::Fresh => self.place.seek(lines),
+            Progress::Read(_) => {}
+        }
     }
 
     /// Reads the clock where the turn begins a call.
@@ -200,7 +213,7 @@ impl Actor {
         ensures clock { C.means clock.new ≡ C.means clock.old }
     {
         let lines = script.calls.items();
-        self.place.seek(lines);
+        self.seek(lines);
         self.act(alloc, volume, clock, lines);
         self.turned(lines)
     }
