@@ -87,7 +87,7 @@ all_numbers lines at actor enough =
     empty [] none = refl
     empty (x ∷ xs) none = absurd (omega (arith, none))
 
-none_numbers : (lines : List Line) (number : ℕ) → AllByRecursion (λ line. (1 ≤ line.actor) × (line.actor ≤ 64)) lines → IsNone number → numbers_in lines number ≡ []
+pub none_numbers : (lines : List Line) (number : ℕ) → AllByRecursion (λ line. (1 ≤ line.actor) × (line.actor ≤ 64)) lines → IsNone number → numbers_in lines number ≡ []
 none_numbers [] number all none = refl
 none_numbers (line ∷ lines) number all none =
     let some = all.0.0 in

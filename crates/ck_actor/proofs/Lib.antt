@@ -7,3 +7,4 @@ pub mod WorkedScripts
 pub mod PlayedLemmas
 pub mod StepLemmas
 pub mod EndsLemmas
+pub mod TurnedLemmas
