@@ -18,15 +18,16 @@ use Rattle.ck_script.specs.declared.line.Line.{Line}
 use Rattle.ck_script.specs.Numbered.{calls_in, numbers_in, IsNumbered}
 use Rattle.ck_files.specs.Built.{IsBuilt}
 use Rattle.ck_engine.specs.Recovery.{Recovers}
-use Rattle.ck_volume.specs.Told.{AreAnswered}
+use Rattle.ck_volume.specs.Progress.{had_of}
 use Rattle.ck_volume.specs.TopCuts.{synced_count}
 use Rattle.ck_volume.specs.Volume.{committed_of, history_of, origin_of, room_of, spoilt_of, told_of}
 use Rattle.ck_volume.specs.declared.volume.Volume.{Volume}
 use Rattle.ck_actor.specs.declared.actor.Actor.{Actor}
-use Rattle.ck_actor.specs.Completed.{IsSound}
+use Rattle.ck_actor.specs.declared.place.Place.{Place}
+use Rattle.ck_actor.specs.Actor.{IsNew, IsOnWay, OnRead}
 use Rattle.ck_actor.specs.Counts.{TurnCounts}
 use Rattle.ck_actor.specs.Place.{answered_count, call_count}
-use Rattle.ck_actor.specs.Played.{places_of, AreBegun, AreFinished, AreTurned, IsNone, IsPlayed}
+use Rattle.ck_actor.specs.Played.{places_of, AreBegun, AreFinished, AreTurned, IsNone, IsPlayed, IsPlayer}
 use Rattle.ck_actor.specs.Turned.{Answered}
 use Rattle.ck_actor.specs.Turns.{Follows, at_first}
 use Rattle.ck_actor.specs.Walk.{IsWalked}
@@ -42,11 +43,21 @@ use Rattle.ck_actor.proofs.TurnLemmas.{walk_begins}
 once : TurnCounts
 once actor seq = 1
 
+new_player : (origin : Meaning) (clock : ClockMeaning) (lines : List Line) (number : ℕ) (actor : Actor) → IsNew number actor → IsPlayer origin clock lines at_first (record { told = []; history = [] }) number actor
+new_player origin clock lines number actor new = record {
+  number_is = ap (λ (p : Place). p.actor) new.place_is;
+  stands = record {
+    numbers = subst (λ (p : Place). [] ≡ numbers_in (take p.line lines) p.actor) (sym new.place_is) refl;
+    on_way = subst (λ p. IsOnWay origin [] lines [] actor.place p) (sym new.progress_is) tt;
+  };
+  moment = subst (λ p. OnRead p (IsTrue clock.tells → actor.began ≡ clock.moment)) (sym new.progress_is) tt;
+  standing = λ i. record { through = answered_count lines (new.place_is i); had = had_of (new.progress_is i) };
+}
+
 first_played : (origin : Meaning) (clock : ClockMeaning) (lines : List Line) (actors : List Actor) (room : ℕ) → AreBegun actors → length lines ≤ room → IsPlayed origin clock lines actors at_first once (record { told = []; history = [] }) room
 first_played origin clock lines actors room begun enough = record {
   many = begun.many;
-  players = λ place actor is. let new = begun.each place actor is in
-      record { number_is = new.number_is; stands = new.stands origin [] lines; moment = new.moment clock; standing = new.standing lines };
+  players = λ place actor is. new_player origin clock lines (suc place) actor (begun.each place actor is);
   others = λ number none. refl;
   sound = record { positive = λ actor seq. omega arith; there = λ actor. inl refl };
   ended = tt;

@@ -83,7 +83,9 @@ walk_step lines built n at next known counts turns before after step walked =
 -- ---- an actor's line, and its place
 
 pub count_grows : (lines : List Line) (a b actor : ℕ) → a ≤ b → call_count (take a lines) actor ≤ call_count (take b lines) actor
-count_grows [] a b actor low = omega arith
+count_grows [] zero b actor low = omega arith
+count_grows [] (suc a) zero actor low = absurd (omega (arith, low))
+count_grows [] (suc a) (suc b) actor low = omega arith
 count_grows (line ∷ lines) zero b actor low = omega arith
 count_grows (line ∷ lines) (suc a) zero actor low = absurd (omega (arith, low))
 count_grows (line ∷ lines) (suc a) (suc b) actor low =

@@ -57,6 +57,11 @@ pub record Stands (origin : Meaning) (told : List Call) (lines : List Line) (his
 abbrev pub HasMoment : ClockMeaning → Actor → Type 0
 HasMoment clock actor = OnRead actor.progress (IsTrue clock.tells → actor.began ≡ clock.moment)
 
+-- it stands before all lines
+pub record IsNew (number : ℕ) (actor : Actor) : Type 0 where
+  pub place_is : actor.place ≡ record { actor = number; line = 0 }
+  pub progress_is : actor.progress ≡ Fresh
+
 -- how many of its calls are through, and how many turns the next one has had
 abbrev pub standing_of : List Line → Actor → Standing
 standing_of lines actor = record { through = answered_count lines actor.place; had = had_of actor.progress }
