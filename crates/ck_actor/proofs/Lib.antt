@@ -6,3 +6,5 @@ pub mod ActorLemmas
 pub mod WorkedScripts
 pub mod PlayedLemmas
 pub mod StepLemmas
+pub mod EndsLemmas
+pub mod TurnedLemmas

@@ -11,7 +11,7 @@ use Rattle.ck_model.specs.History.{calls_of, call_at}
 use Rattle.ck_script.specs.declared.line.Line.{Line}
 use Rattle.ck_script.specs.Numbered.{calls_in, numbers_in, IsNumbered}
 
-numbers_in-append : (before after : List Line) (actor : ℕ) → numbers_in (before ++ after) actor ≡ numbers_in before actor ++ numbers_in after actor
+pub numbers_in-append : (before after : List Line) (actor : ℕ) → numbers_in (before ++ after) actor ≡ numbers_in before actor ++ numbers_in after actor
 numbers_in-append before after actor = filter_map-append (λ (l : Line). if nat_eq l.actor actor then Some l.seq else None) before after
 
 module _ (lines : List Line) (at : ℕ) (line : Line) (actor : ℕ) (within : at < length lines) (is : line ≡ get_or lines at line) where

@@ -48,17 +48,17 @@ get_other [] i j x other = refl
 get_other (y ∷ xs) zero zero x other = cc
 get_other (y ∷ xs) zero (suc j) x other = refl
 get_other (y ∷ xs) (suc i) zero x other = refl
-get_other (y ∷ xs) (suc i) (suc j) x other = get_other xs i j x other
+get_other (y ∷ xs) (suc i) (suc j) x other = let apart : nat_eq j i ≡ false = grind (arith, nat_tests, other) in get_other xs i j x apart
 
 set_length : {A : Type 0} (xs : List A) (i : ℕ) (x : A) → length (set xs i x) ≡ length xs
 set_length [] i x = refl
 set_length (y ∷ xs) zero x = refl
 set_length (y ∷ xs) (suc i) x = ap suc (set_length xs i x)
 
-some_one : {A : Type 0} (x y : A) → Some x ≡ Some y → x ≡ y
+pub some_one : {A : Type 0} (x y : A) → Some x ≡ Some y → x ≡ y
 some_one x y same = cc
 
-weaken : {A : Type 0} (P Q : A → Type 0) (xs : List A) → ((x : A) → P x → Q x) → AllByRecursion P xs → AllByRecursion Q xs
+pub weaken : {A : Type 0} (P Q : A → Type 0) (xs : List A) → ((x : A) → P x → Q x) → AllByRecursion P xs → AllByRecursion Q xs
 weaken P Q [] each all = tt
 weaken P Q (x ∷ xs) each all = (each x all.0, weaken P Q xs each all.1)
 
@@ -213,7 +213,8 @@ module _ (origin : Meaning) (clock : ClockMeaning) (lines : List Line) (actors :
             let found : Some moved ≡ Some actor = sym (get_same actors place moved within) ∙ sym (ap (slice_get (set actors place moved)) here) ∙ is in
             subst (λ n. IsPlayer origin clock lines next after (suc n) actor) (sym here) (subst (IsPlayer origin clock lines next after (suc place)) (some_one moved actor found) own)
         | false ↦ λ other.
-            others (suc j) actor other (players j actor (sym (get_other actors place j moved other) ∙ is))
+            let apart : nat_eq (suc j) (suc place) ≡ false = grind (arith, nat_tests, other) in
+            others (suc j) actor apart (players j actor (sym (get_other actors place j moved other) ∙ is))
       ] refl
 
   module _ (at : Standings) (known : TurnCounts) (before after : Answered) (room left : ℕ) (played : IsPlayed origin clock lines actors at known before room)
@@ -340,7 +341,7 @@ module _ (origin : Meaning) (clock : ClockMeaning) (lines : List Line) (actors :
       not_none a none =
           let by = turn.own in
           elim none [
-            | inl zero ↦ grind (arith, nat_tests, by, zero)
+            | inl first ↦ grind (arith, nat_tests, by, first)
             | inr above ↦ grind (arith, nat_tests, by, above, limit)
           ]
 

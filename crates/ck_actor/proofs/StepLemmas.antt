@@ -3,6 +3,7 @@ use Rattle.std.proofs.Common.{◌≡◌, ◌≤◌, ◌<◌, ◌⊎◌, inl, inr
 use Rattle.std.specs.Prelude.{slice_get}
 use Rattle.std.specs.List.{cons_option, filter_map, AllByRecursion}
 use Rattle.std.proofs.lemmas.Bool.Decides.{nat_tests}
+use Rattle.std.proofs.lemmas.Option.{get_or_from_slice_get, slice_get_within}
 use Rattle.ck_disk.specs.Disk.{Meaning}
 use Rattle.ck_disk.specs.declared.disk.Disk.{Ghosts}
 use Rattle.ck_io.specs.Clock.{ClockMeaning}
@@ -25,7 +26,8 @@ use Rattle.ck_actor.specs.Actor.{number_of, standing_of, IsOnWay}
 use Rattle.ck_actor.specs.Completed.{IsCompleted, IsSound}
 use Rattle.ck_actor.specs.Counts.{TurnCounts}
 use Rattle.ck_actor.specs.Place.{answered_count, call_count}
-use Rattle.ck_actor.specs.Played.{places_of, IsStep, IsStepGoing, IsStepGone, IsUnderWay}
+use Rattle.ck_actor.specs.Played.{places_of, AreFinished, HasStepped, IsPlayer, IsStep, IsUnderWay}
+use Rattle.ck_actor.specs.Turned.{answered_by_now}
 use Rattle.ck_actor.specs.Turns.{Standing, going_on, gone_on}
 use Rattle.ck_actor.specs.Walk.{Standings, seq_at, moved_to, with_count, IsWalked}
 use Rattle.ck_actor.proofs.LeftLemmas.{completed_before, completed_going, completed_gone, seq_here}
@@ -81,7 +83,9 @@ walk_step lines built n at next known counts turns before after step walked =
 -- ---- an actor's line, and its place
 
 pub count_grows : (lines : List Line) (a b actor : ℕ) → a ≤ b → call_count (take a lines) actor ≤ call_count (take b lines) actor
-count_grows [] a b actor low = omega arith
+count_grows [] zero b actor low = omega arith
+count_grows [] (suc a) zero actor low = absurd (omega (arith, low))
+count_grows [] (suc a) (suc b) actor low = omega arith
 count_grows (line ∷ lines) zero b actor low = omega arith
 count_grows (line ∷ lines) (suc a) zero actor low = absurd (omega (arith, low))
 count_grows (line ∷ lines) (suc a) (suc b) actor low =
@@ -113,11 +117,29 @@ gone_fewer line moved passed had next behind few left =
     subst (λ b. (if nat_le moved passed then 262145 - next else 0) < (if b then 262145 - had else 0)) (sym left)
     (subst (λ b. (if b then 262145 - next else 0) < 262145 - had) (sym behind) (omega (arith, few)))
 
+-- the calls of the lines before this one were answered, and its own was or wasn't
+abbrev pub HalfCompleted : List Line → Standings → TurnCounts → List (ℕ × ℕ) → ℕ → Line → Standings → TurnCounts → List (ℕ × ℕ) → Type 0
+HalfCompleted lines first counts before passed line at known answered =
+    ((at line.actor).through < line.seq) × IsCompleted lines first counts before passed at known answered ⊎ IsCompleted lines first counts before (passed + 1) at known answered
+
+-- the same while the actor at a place takes its turns until the line's call is answered
+pub record IsFinishing {D : Type 0} {g : Ghosts D} (means : D → Meaning) (origin : D) (clock : ClockMeaning) (lines : List Line) (turns : List ℕ) (passed place : ℕ) (volume : Volume D g) (actors : List Actor) : Type 0 where
+  pub line : Line
+  pub line_is : slice_get lines passed ≡ Some line
+  pub place_is : suc place ≡ line.actor
+  pub first : Standings
+  pub counts : TurnCounts
+  pub before : List (ℕ × ℕ)
+  pub walked : IsWalked lines first counts turns before
+  pub first_sound : IsSound lines first counts
+  pub at : Standings
+  pub known : TurnCounts
+  pub under_way : IsUnderWay means origin clock lines volume actors at known
+  pub half : HalfCompleted lines first counts before passed line at known (places_of (history_of volume))
+
 module _ (lines : List Line) (first : Standings) (counts : TurnCounts) (before : List (ℕ × ℕ)) (passed : ℕ) (line : Line) (numbered : IsNumbered lines) (within : passed < length lines) (is : line ≡ get_or lines passed line) where
-  -- the calls of the lines before it were answered, and its own was or wasn't
-  abbrev pub IsHalfway : Standings → TurnCounts → List (ℕ × ℕ) → Type 0
-  IsHalfway at known answered =
-      ((at line.actor).through < line.seq) × IsCompleted lines first counts before passed at known answered ⊎ IsCompleted lines first counts before (passed + 1) at known answered
+  abbrev IsHalfway : Standings → TurnCounts → List (ℕ × ℕ) → Type 0
+  IsHalfway = HalfCompleted lines first counts before passed line
 
   own : nat_eq line.actor line.actor ≡ true
   own = grind (arith, nat_tests)
@@ -227,3 +249,96 @@ module _ (lines : List Line) (first : Standings) (counts : TurnCounts) (before :
               let behind : nat_le moved.place.line passed ≡ false = behind_line moved number through in
               gone_fewer actor.place.line moved.place.line passed (had_of actor.progress) (had_of moved.progress) behind few left
         ]
+
+-- ---- an actor's turns until its line's call is answered
+
+module _ {D : Type 0} {g : Ghosts D} (means : D → Meaning) (origin : D) (clock : ClockMeaning) (lines : List Line) (turns : List ℕ) (passed place : ℕ) (numbered : IsNumbered lines) where
+  pub finish_begins : (line : Line) (volume : Volume D g) (actors : List Actor) → slice_get lines passed ≡ Some line → suc place ≡ line.actor → AreFinished means origin clock lines turns passed volume actors
+      → IsFinishing means origin clock lines turns passed place volume actors
+  finish_begins line volume actors is place_is so_far = record {
+    line = line;
+    line_is = is;
+    place_is = place_is;
+    first = so_far.first;
+    counts = so_far.counts;
+    before = so_far.before;
+    walked = so_far.walked;
+    first_sound = so_far.first_sound;
+    at = so_far.at;
+    known = so_far.known;
+    under_way = so_far.under_way;
+    half = begins_halfway lines so_far.first so_far.counts so_far.before passed line numbered (slice_get_within lines passed line is) (sym (get_or_from_slice_get lines passed line line is))
+        so_far.at so_far.known (places_of (history_of volume)) so_far.completed;
+  }
+
+  module _ (volume : Volume D g) (actors : List Actor) (actor : Actor) (there : slice_get actors place ≡ Some actor) (way : IsFinishing means origin clock lines turns passed place volume actors) where
+    abbrev player : IsPlayer (means origin) clock lines way.at (answered_by_now volume) (suc place) actor
+    player = way.under_way.played.players place actor there
+
+    here : way.line ≡ get_or lines passed way.line
+    here = sym (get_or_from_slice_get lines passed way.line way.line way.line_is)
+
+    inside : passed < length lines
+    inside = slice_get_within lines passed way.line way.line_is
+
+    number : number_of actor ≡ way.line.actor
+    number = player.number_is ∙ way.place_is
+
+    stood : standing_of lines actor ≡ way.at way.line.actor
+    stood = player.standing ∙ ap way.at way.place_is
+
+    pub finish_ends : passed < actor.place.line → AreFinished means origin clock lines turns (passed + 1) volume actors
+    finish_ends past = record {
+      first = way.first;
+      counts = way.counts;
+      before = way.before;
+      walked = way.walked;
+      first_sound = way.first_sound;
+      at = way.at;
+      known = way.known;
+      under_way = way.under_way;
+      completed = elim way.half [
+        | inl not_yet ↦
+            let through = past_line lines way.first way.counts way.before passed way.line numbered inside here actor number past in
+            let same : answered_count lines actor.place ≡ (way.at way.line.actor).through = ap (λ (k : Standing). k.through) stood in
+            let less = not_yet.0 in
+            absurd (omega (arith, through, same, less))
+        | inr done ↦ done
+      ];
+    }
+
+    module _ (low : actor.place.line ≤ passed) (after : Volume D g) (moved : List Actor) (stepped : HasStepped means origin clock lines (suc place) way.at way.known volume after moved) where
+      less : (way.at way.line.actor).through < way.line.seq
+      less =
+          let before = before_line lines way.first way.counts way.before passed way.line numbered inside here actor number low in
+          let same : answered_count lines actor.place ≡ (way.at way.line.actor).through = ap (λ (k : Standing). k.through) stood in
+          omega (arith, before, same)
+
+      step : IsStep lines way.line.actor way.at way.known (places_of (history_of volume)) stepped.next stepped.counts (places_of (history_of after))
+      step = subst (λ n. IsStep lines n way.at way.known (places_of (history_of volume)) stepped.next stepped.counts (places_of (history_of after))) way.place_is stepped.step
+
+      pub finish_goes : IsFinishing means origin clock lines turns passed place after moved
+      finish_goes = record {
+        line = way.line;
+        line_is = way.line_is;
+        place_is = way.place_is;
+        first = way.first;
+        counts = way.counts;
+        before = way.before;
+        walked = way.walked;
+        first_sound = way.first_sound;
+        at = stepped.next;
+        known = stepped.counts;
+        under_way = stepped.under_way;
+        half = goes_halfway lines way.first way.counts way.before passed way.line numbered inside here way.at stepped.next way.known stepped.counts (places_of (history_of volume)) (places_of (history_of after)) less step way.half;
+      }
+
+      pub finish_fewer : (next : Actor) → slice_get moved place ≡ Some next → turns_to passed next < turns_to passed actor
+      finish_fewer next is =
+          let behind = stepped.under_way.played.players place next is in
+          let left : nat_le actor.place.line passed ≡ true = grind (arith, nat_tests, low) in
+          turns_fewer lines way.first way.counts way.before passed way.line numbered inside here way.at stepped.next way.known stepped.counts (places_of (history_of volume)) (places_of (history_of after)) less
+          actor next step way.half stood (behind.standing ∙ ap stepped.next way.place_is) (behind.number_is ∙ way.place_is)
+          (had_limit (means origin) (answered_by_now volume).told lines (history_of volume) actor.place actor.progress player.stands.on_way)
+          (had_limit (means origin) (answered_by_now after).told lines (history_of after) next.place next.progress behind.stands.on_way)
+          left

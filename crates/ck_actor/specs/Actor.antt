@@ -19,10 +19,6 @@ use Rattle.ck_actor.specs.Place.{answered_count, call_count, next_number}
 abbrev pub number_of : Actor → ℕ
 number_of actor = actor.place.actor
 
--- before its first turn
-abbrev pub first : ℕ → Actor
-first number = record { place = record { actor = number; line = 0 }; began = 0; progress = Fresh }
-
 -- a turn begins the next call where none is on its way
 abbrev pub begun_by : Progress → Option ℕ → Option ℕ
 begun_by Fresh next = next
@@ -60,6 +56,11 @@ pub record Stands (origin : Meaning) (told : List Call) (lines : List Line) (his
 -- a call that is on its way began at the clock's moment, where the clock tells it
 abbrev pub HasMoment : ClockMeaning → Actor → Type 0
 HasMoment clock actor = OnRead actor.progress (IsTrue clock.tells → actor.began ≡ clock.moment)
+
+-- it stands before all lines
+pub record IsNew (number : ℕ) (actor : Actor) : Type 0 where
+  pub place_is : actor.place ≡ record { actor = number; line = 0 }
+  pub progress_is : actor.progress ≡ Fresh
 
 -- how many of its calls are through, and how many turns the next one has had
 abbrev pub standing_of : List Line → Actor → Standing

@@ -18,12 +18,12 @@ use Rattle.ck_volume.specs.TopCuts.{synced_count}
 use Rattle.ck_volume.specs.Volume.{committed_of, history_of, origin_of, room_of, spoilt_of}
 use Rattle.ck_volume.specs.declared.volume.Volume.{Volume}
 use Rattle.ck_actor.specs.declared.actor.Actor.{Actor}
-use Rattle.ck_actor.specs.Actor.{number_of, standing_of, HasMoment, Stands}
+use Rattle.ck_actor.specs.Actor.{number_of, standing_of, HasMoment, IsNew, Stands}
 use Rattle.ck_actor.specs.Completed.{IsCompleted, IsSound}
 use Rattle.ck_actor.specs.Counts.{TurnCounts, TakeTurns}
 use Rattle.ck_actor.specs.Place.{call_count}
 use Rattle.ck_actor.specs.Turned.{Answered, answered_by_now}
-use Rattle.ck_actor.specs.Turns.{at_first, going_on, gone_on}
+use Rattle.ck_actor.specs.Turns.{going_on, gone_on}
 use Rattle.ck_actor.specs.Walk.{Standings, seq_at, moved_to, with_count, IsWalked}
 
 -- where the actor with this number stands
@@ -34,12 +34,6 @@ pub record IsPlayer (origin : Meaning) (clock : ClockMeaning) (lines : List Line
   pub standing : standing_of lines actor ≡ at number
 
 -- before the first turn
-pub record IsNew (number : ℕ) (actor : Actor) : Type 0 where
-  pub number_is : number_of actor ≡ number
-  pub stands : (origin : Meaning) (told : List Call) (lines : List Line) → Stands origin told lines [] actor
-  pub moment : (clock : ClockMeaning) → HasMoment clock actor
-  pub standing : (lines : List Line) → standing_of lines actor ≡ at_first number
-
 pub record AreBegun (actors : List Actor) : Type 0 where
   pub many : length actors ≡ 64
   pub each : (place : ℕ) (actor : Actor) → slice_get actors place ≡ Some actor → IsNew (suc place) actor

@@ -1,19 +1,14 @@
-ghost use Rattle.std.specs.Prelude.{◌≡◌, ◌≤◌, ◌<◌, ◌+◌, ◌↔◌, List, [], None, IsTrue, length, nat_le, take};
+ghost use Rattle.std.specs.Prelude.{◌≡◌, ◌≤◌, ◌<◌, ◌+◌, ◌↔◌, None, IsTrue, length, nat_le, take};
 ghost use Rattle.std.specs.List.{AllByRecursion};
-ghost use Rattle.ck_disk.specs.Disk.{Meaning};
-ghost use Rattle.ck_io.specs.Clock.{ClockMeaning};
-ghost use Rattle.ck_model.specs.declared.call.Call.{Call};
 ghost use Rattle.ck_model.specs.History.{call_at};
-ghost use Rattle.ck_script.specs.declared.line.Line.{Line as Lines};
 ghost use Rattle.ck_script.specs.Numbered.{calls_in, numbers_in, IsNumbered};
 ghost use Rattle.ck_files.specs.Built.{IsBuilt};
 ghost use Rattle.ck_volume.specs.Told.{AreAnswered};
 ghost use Rattle.ck_volume.specs.TopCuts.{synced_count};
 ghost use Rattle.ck_volume.specs.Volume.{committed_of, history_of, origin_of, room_of, spoilt_of, told_of};
-ghost use Rattle.ck_actor.specs.Actor.{begins as begun_next, calls_left, first, number_of, standing_of, HasMoment, IsThrough, OnRead, Stands};
+ghost use Rattle.ck_actor.specs.Actor.{begins as begun_next, calls_left, number_of, standing_of, HasMoment, IsNew, IsThrough, OnRead, Stands};
 ghost use Rattle.ck_actor.specs.Place.{IsFound};
 ghost use Rattle.ck_actor.specs.Turned.{answered_by_now, IsTurn};
-ghost use Rattle.ck_actor.specs.Turns.{at_first};
 ghost use Rattle.ck_actor.specs.declared.actor.ActorTurn.TheVariants.{Through};
 
 use crate::place::Place;
@@ -43,7 +38,7 @@ pub struct Actor {
 impl Actor {
     /// No call of it was answered yet.
     pub fn new(number: u32) -> Actor
-        ensures { result ≡ first number }
+        ensures { IsNew number result }
     {
         Actor {
             place: Place::new(number),

@@ -3,7 +3,7 @@
 
 mod actor;
 mod place;
-mod play;
+mod script;
 
 pub use actor::{Actor, ActorTurn};
-pub use play::play;
+pub use script::play;

@@ -1,0 +1,158 @@
+-- What stands before the first turn, and what follows once all calls are through.
+use Rattle.std.proofs.Common.{◌≡◌, ◌≤◌, ◌<◌, ◌⊎◌, inl, inr, ℕ, zero, suc, ◌+◌, true, false, Some, None, IsTrue, List, [], ◌∷◌, ◌++◌, length, take, drop, nat_eq, nat_lt, if◌then◌else◌, refl, sym, ap, subst, ◌∙◌, arith, length-append}
+use Rattle.std.specs.Prelude.{slice_get}
+use Rattle.std.specs.List.{cons_option, range_with_len, AllByRecursion}
+use Rattle.std.proofs.lemmas.Bool.Decides.{nat_tests}
+use Rattle.std.proofs.lemmas.List.{append-nil, take_all, take-append-drop}
+use Rattle.std.proofs.lemmas.List.Elements.{filter_map-append}
+use Rattle.std.proofs.lemmas.Option.{slice_get_cases}
+use Rattle.ck_disk.specs.Disk.{Meaning}
+use Rattle.ck_disk.specs.declared.disk.Disk.{Ghosts}
+use Rattle.ck_io.specs.Clock.{ClockMeaning}
+use Rattle.ck_model.specs.declared.call.Call.{Call}
+use Rattle.ck_model.specs.declared.entry.Entry.{Entry}
+use Rattle.ck_model.specs.History.{IsOfScript, call_at, calls_of, numbers_of}
+use Rattle.ck_model.specs.Streams.{Texts}
+use Rattle.ck_model.specs.World.{World}
+use Rattle.ck_script.specs.declared.line.Line.{Line}
+use Rattle.ck_script.specs.Numbered.{calls_in, numbers_in, IsNumbered}
+use Rattle.ck_files.specs.Built.{IsBuilt}
+use Rattle.ck_engine.specs.Recovery.{Recovers}
+use Rattle.ck_volume.specs.Progress.{had_of}
+use Rattle.ck_volume.specs.TopCuts.{synced_count}
+use Rattle.ck_volume.specs.Volume.{committed_of, history_of, origin_of, room_of, spoilt_of, told_of}
+use Rattle.ck_volume.specs.declared.volume.Volume.{Volume}
+use Rattle.ck_actor.specs.declared.actor.Actor.{Actor}
+use Rattle.ck_actor.specs.declared.place.Place.{Place}
+use Rattle.ck_actor.specs.Actor.{IsNew, IsOnWay, OnRead}
+use Rattle.ck_actor.specs.Counts.{TurnCounts}
+use Rattle.ck_actor.specs.Place.{answered_count, call_count}
+use Rattle.ck_actor.specs.Played.{places_of, AreBegun, AreFinished, AreTurned, IsNone, IsPlayed, IsPlayer}
+use Rattle.ck_actor.specs.Turned.{Answered}
+use Rattle.ck_actor.specs.Turns.{Follows, at_first}
+use Rattle.ck_actor.specs.Walk.{IsWalked}
+use Rattle.ck_actor.proofs.LeftLemmas.{completed_all}
+use Rattle.ck_actor.proofs.PlaceLemmas.{calls_as_many, numbers_in-append}
+use Rattle.ck_actor.proofs.PlayedLemmas.{left_first}
+use Rattle.ck_actor.proofs.StepLemmas.{lines_last}
+use Rattle.ck_actor.proofs.TurnLemmas.{walk_begins}
+
+-- ---- before the first turn
+
+-- each call takes one turn, as far as is known
+once : TurnCounts
+once actor seq = 1
+
+new_player : (origin : Meaning) (clock : ClockMeaning) (lines : List Line) (number : ℕ) (actor : Actor) → IsNew number actor → IsPlayer origin clock lines at_first (record { told = []; history = [] }) number actor
+new_player origin clock lines number actor new = record {
+  number_is = ap (λ (p : Place). p.actor) new.place_is;
+  stands = record {
+    numbers = subst (λ (p : Place). [] ≡ numbers_in (take p.line lines) p.actor) (sym new.place_is) refl;
+    on_way = subst (λ p. IsOnWay origin [] lines [] actor.place p) (sym new.progress_is) tt;
+  };
+  moment = subst (λ p. OnRead p (IsTrue clock.tells → actor.began ≡ clock.moment)) (sym new.progress_is) tt;
+  standing = λ i. record { through = answered_count lines (new.place_is i); had = had_of (new.progress_is i) };
+}
+
+first_played : (origin : Meaning) (clock : ClockMeaning) (lines : List Line) (actors : List Actor) (room : ℕ) → AreBegun actors → length lines ≤ room → IsPlayed origin clock lines actors at_first once (record { told = []; history = [] }) room
+first_played origin clock lines actors room begun enough = record {
+  many = begun.many;
+  players = λ place actor is. new_player origin clock lines (suc place) actor (begun.each place actor is);
+  others = λ number none. refl;
+  sound = record { positive = λ actor seq. omega arith; there = λ actor. inl refl };
+  ended = tt;
+  left = let all = left_first lines 64 in omega (arith, all, enough);
+  takes = λ is_told w found texts. tt;
+  answered = tt;
+  moments = λ is_told. tt;
+}
+
+pub first_turned : {D : Type 0} {g : Ghosts D} (means : D → Meaning) (clock : ClockMeaning) (lines : List Line) (volume : Volume D g) (actors : List Actor) → AreBegun actors → length lines ≤ room_of volume
+    → history_of volume ≡ [] → told_of volume ≡ [] → spoilt_of volume ≡ None → AreTurned means (origin_of volume) clock lines [] volume actors
+first_turned means clock lines volume actors begun enough history told unspoilt = record {
+  at = at_first;
+  known = once;
+  under_way = record {
+    played = subst (λ (now : Answered). IsPlayed (means (origin_of volume)) clock lines actors at_first once now (room_of volume)) (λ i. record { told = sym told i; history = sym history i })
+        (first_played (means (origin_of volume)) clock lines actors (room_of volume) begun enough);
+    synced = subst (λ (es : List Entry). synced_count (call_at (calls_in lines)) es ≤ committed_of volume) (sym history) (omega arith);
+    unspoilt = unspoilt;
+    origin_is = refl;
+  };
+  walked = subst (λ (es : List Entry). IsWalked lines at_first once [] (places_of es)) (sym history) (walk_begins lines once);
+}
+
+-- ---- behind the last one
+
+-- an actor whose calls are all before its place has just those
+all_numbers : (lines : List Line) (at actor : ℕ) → call_count lines actor ≤ call_count (take at lines) actor → numbers_in (take at lines) actor ≡ numbers_in lines actor
+all_numbers lines at actor enough =
+    let parts : numbers_in lines actor ≡ numbers_in (take at lines) actor ++ numbers_in (drop at lines) actor =
+    ap (λ xs. numbers_in xs actor) (sym (take-append-drop at lines)) ∙ numbers_in-append (take at lines) (drop at lines) actor in
+    let many : length (numbers_in (take at lines) actor ++ numbers_in (drop at lines) actor) ≡ length (numbers_in (take at lines) actor) + length (numbers_in (drop at lines) actor) = simp length-append (omega arith) in
+    let all : call_count lines actor ≡ length (numbers_in (take at lines) actor ++ numbers_in (drop at lines) actor) = ap (λ (numbers : List ℕ). length numbers) parts in
+    let none : numbers_in (drop at lines) actor ≡ [] = empty (numbers_in (drop at lines) actor) (omega (arith, enough, many, all)) in
+    sym (parts ∙ ap (λ rest. numbers_in (take at lines) actor ++ rest) none ∙ append-nil (numbers_in (take at lines) actor))
+  where
+    empty : (xs : List ℕ) → length xs ≡ 0 → xs ≡ []
+    empty [] none = refl
+    empty (x ∷ xs) none = absurd (omega (arith, none))
+
+pub none_numbers : (lines : List Line) (number : ℕ) → AllByRecursion (λ line. (1 ≤ line.actor) × (line.actor ≤ 64)) lines → IsNone number → numbers_in lines number ≡ []
+none_numbers [] number all none = refl
+none_numbers (line ∷ lines) number all none =
+    let some = all.0.0 in
+    let low = all.0.1 in
+    let other : nat_eq line.actor number ≡ false =
+    elim none [
+      | inl first ↦ grind (arith, nat_tests, some, first)
+      | inr above ↦ grind (arith, nat_tests, low, above)
+    ] in
+    ap (λ b. cons_option (if b then Some line.seq else None) (numbers_in lines number)) other ∙ none_numbers lines number all.1 none
+
+no_entries : (lines : List Line) (history : List Entry) (number : ℕ) → IsNumbered lines → numbers_of history number ≡ [] → numbers_in lines number ≡ [] → numbers_of history number ≡ range_with_len 1 (length (calls_of (calls_in lines) number))
+no_entries lines history number numbered history_none none =
+    history_none ∙ sym none ∙ numbered number ∙ ap (range_with_len 1) (sym (calls_as_many lines number))
+
+module _ {D : Type 0} {g : Ghosts D} (means : D → Meaning) (origin : D) (clock : ClockMeaning) (lines : List Line) (turns : List ℕ) (volume : Volume D g) (actors : List Actor)
+    (end : AreFinished means origin clock lines turns (length lines) volume actors) where
+  -- each actor's calls are through
+  own_entries : (place : ℕ) → place < 64 → IsNumbered lines → numbers_of (history_of volume) (suc place) ≡ range_with_len 1 (length (calls_of (calls_in lines) (suc place)))
+  own_entries place within numbered =
+      let played = end.under_way.played in
+      elim (slice_get_cases actors place).1 [
+        | inl there ↦
+            let actor = there.0 in
+            let player = played.players place actor there.2 in
+            let number = player.number_is in
+            let whole : take (length lines) lines ≡ lines = take_all lines (length lines) (omega arith) in
+            let all : call_count lines (suc place) ≤ (end.at (suc place)).through = subst (λ (xs : List Line). call_count xs (suc place) ≤ (end.at (suc place)).through) whole (end.completed.all (suc place)) in
+            let through : answered_count lines actor.place ≡ (end.at (suc place)).through = ap (λ s. s.through) player.standing in
+            let here : call_count (take actor.place.line lines) (suc place) ≡ answered_count lines actor.place = ap (call_count (take actor.place.line lines)) (sym number) in
+            let enough : call_count lines (suc place) ≤ call_count (take actor.place.line lines) (suc place) = omega (arith, all, through, here) in
+            subst (λ n. numbers_of (history_of volume) n ≡ numbers_in (take actor.place.line lines) n) number player.stands.numbers
+            ∙ all_numbers lines actor.place.line (suc place) enough
+            ∙ numbered (suc place)
+            ∙ ap (range_with_len 1) (sym (calls_as_many lines (suc place)))
+        | inr past ↦ let many = played.many in let less = past.0 in absurd (omega (arith, many, less, within))
+      ]
+
+  pub whole_script : IsNumbered lines → AllByRecursion (λ line. (1 ≤ line.actor) × (line.actor ≤ 64)) lines → IsOfScript (calls_in lines) (history_of volume)
+  whole_script numbered among zero = no_entries lines (history_of volume) 0 numbered (end.under_way.played.others 0 (inl refl)) (none_numbers lines 0 among (inl refl))
+  whole_script numbered among (suc place) =
+      elim (nat_lt place 64) as (λ b. nat_lt place 64 ≡ b → numbers_of (history_of volume) (suc place) ≡ range_with_len 1 (length (calls_of (calls_in lines) (suc place)))) [
+        | true ↦ λ less. let within : place < 64 = grind (arith, nat_tests, less) in own_entries place within numbered
+        | false ↦ λ not_less.
+            let above : 64 < suc place = grind (arith, nat_tests, not_less) in
+            no_entries lines (history_of volume) (suc place) numbered (end.under_way.played.others (suc place) (inr above)) (none_numbers lines (suc place) among (inr above))
+      ] refl
+
+  -- the history follows the turns
+  pub whole_follows : AllByRecursion (λ line. IsBuilt line.call) lines → IsTrue (means origin).tells → (w : World) → Recovers (means origin).shows w → (texts : Texts)
+      → Follows texts (record { calls = lines; turns = turns }) w (history_of volume)
+  whole_follows built is_told w found texts = record {
+    counts = end.known;
+    taken = end.under_way.played.takes is_told w found texts;
+    order = completed_all lines end.first end.counts end.before (length lines) end.at end.known (places_of (history_of volume)) turns (omega arith)
+        end.walked end.first_sound end.under_way.played.sound end.completed (lines_last lines built);
+  }
