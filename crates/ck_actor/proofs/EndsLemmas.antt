@@ -31,7 +31,7 @@ use Rattle.ck_actor.specs.Played.{places_of, AreBegun, AreFinished, AreTurned, I
 use Rattle.ck_actor.specs.Turned.{Answered}
 use Rattle.ck_actor.specs.Turns.{Follows, at_first}
 use Rattle.ck_actor.specs.Walk.{IsWalked}
-use Rattle.ck_actor.proofs.LeftLemmas.{completed_all}
+use Rattle.ck_actor.proofs.LeftLemmas.{completed_all, completed_begins}
 use Rattle.ck_actor.proofs.PlaceLemmas.{calls_as_many, numbers_in-append}
 use Rattle.ck_actor.proofs.PlayedLemmas.{left_first}
 use Rattle.ck_actor.proofs.StepLemmas.{lines_last}
@@ -80,6 +80,22 @@ first_turned means clock lines volume actors begun enough history told unspoilt 
     origin_is = refl;
   };
   walked = subst (λ (es : List Entry). IsWalked lines at_first once [] (places_of es)) (sym history) (walk_begins lines once);
+}
+
+-- ---- behind the listed turns
+
+pub first_finished : {D : Type 0} {g : Ghosts D} (means : D → Meaning) (origin : D) (clock : ClockMeaning) (lines : List Line) (turns : List ℕ) (volume : Volume D g) (actors : List Actor)
+    → AreTurned means origin clock lines turns volume actors → AreFinished means origin clock lines turns 0 volume actors
+first_finished means origin clock lines turns volume actors so_far = record {
+  first = so_far.at;
+  counts = so_far.known;
+  before = places_of (history_of volume);
+  walked = so_far.walked;
+  first_sound = so_far.under_way.played.sound;
+  at = so_far.at;
+  known = so_far.known;
+  under_way = so_far.under_way;
+  completed = completed_begins lines so_far.at so_far.known (places_of (history_of volume));
 }
 
 -- ---- behind the last one

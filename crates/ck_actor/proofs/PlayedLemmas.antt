@@ -1,11 +1,11 @@
 -- What one turn does to what stands while a script is played.
-use Rattle.std.proofs.Common.{◌≡◌, ◌≢◌, ◌≤◌, ◌<◌, ◌⊎◌, inl, inr, ℕ, zero, suc, ◌+◌, ◌-◌, true, false, Option, Some, None, Bool, IsSomeAnd, List, [], ◌∷◌, ◌++◌, map as list_map, length, set, nat_eq, nat_le, if◌then◌else◌, IsTrue, refl, sym, ap, subst, ◌∙◌, arith}
+use Rattle.std.proofs.Common.{◌≡◌, ◌≢◌, ◌≤◌, ◌<◌, ◌⊎◌, inl, inr, ℕ, zero, suc, ◌+◌, ◌-◌, true, false, Option, Some, None, Bool, IsSomeAnd, List, [], ◌∷◌, ◌++◌, map as list_map, length, get_or, set, nat_eq, nat_le, if◌then◌else◌, IsTrue, refl, sym, ap, subst, ◌∙◌, arith}
 use Rattle.std.specs.Prelude.{slice_get}
 use Rattle.std.specs.List.{cons_option, filter_map, AllByRecursion}
 use Rattle.std.proofs.lemmas.Bool.Decides.{nat_tests}
 use Rattle.std.proofs.lemmas.List.{append-nil, map-append}
 use Rattle.std.proofs.lemmas.List.Elements.{filter_map-append}
-use Rattle.std.proofs.lemmas.Option.{slice_get_within}
+use Rattle.std.proofs.lemmas.Option.{slice_get-get_or, slice_get_within}
 use Rattle.ck_disk.specs.Disk.{Meaning}
 use Rattle.ck_io.specs.Clock.{ClockMeaning}
 use Rattle.ck_laws.specs.Laws.{frozen}
@@ -22,10 +22,10 @@ use Rattle.ck_volume.specs.Told.{AreAnswered}
 use Rattle.ck_volume.proofs.FitsLaws.{fits_others}
 use Rattle.ck_actor.specs.declared.actor.Actor.{Actor}
 use Rattle.ck_actor.specs.declared.place.Place.{Place}
-use Rattle.ck_actor.specs.Actor.{number_of, standing_of, HasMoment, IsOnWay, Stands}
+use Rattle.ck_actor.specs.Actor.{calls_left, number_of, standing_of, HasMoment, IsOnWay, Stands}
 use Rattle.ck_actor.specs.Completed.{IsSound}
 use Rattle.ck_actor.specs.Counts.{TurnCounts, Takes, TakeTurns, frozen_turns}
-use Rattle.ck_actor.specs.Place.{call_count}
+use Rattle.ck_actor.specs.Place.{answered_count, call_count}
 use Rattle.ck_actor.specs.Played.{all_left, places_of, ArePlayers, AreTaken, HaveMoment, IsNone, IsPlayed, IsPlayer, IsStep}
 use Rattle.ck_actor.specs.Turned.{Answered, IsAnswered, IsIdle, IsTaken, IsTurn}
 use Rattle.ck_actor.specs.Turns.{Standing, at_first, going_on, gone_on}
@@ -402,3 +402,21 @@ module _ (origin : Meaning) (clock : ClockMeaning) (lines : List Line) (actors :
           | inr (inl taken) ↦ going taken
           | inr (inr answers) ↦ gone answers
         ]
+
+-- ---- the actor at a place
+
+module _ (origin : Meaning) (clock : ClockMeaning) (lines : List Line) (actors : List Actor) (at : Standings) (known : TurnCounts) (now : Answered) (room : ℕ) (played : IsPlayed origin clock lines actors at known now room) (place : ℕ) (limit : place < 64) (default : Actor) where
+  pub actor_there : slice_get actors place ≡ Some (get_or actors place default)
+  actor_there = let many = played.many in slice_get-get_or actors place default (omega (arith, many, limit))
+
+  pub own_player : IsPlayer origin clock lines at now (suc place) (get_or actors place default)
+  own_player = played.players place (get_or actors place default) actor_there
+
+  pub own_room : calls_left lines (get_or actors place default) ≤ room
+  own_room =
+      let actor = get_or actors place default in
+      let count : call_count lines actor.place.actor ≡ call_count lines (suc place) = ap (call_count lines) own_player.number_is in
+      let through : answered_count lines actor.place ≡ (at (suc place)).through = ap (λ (s : Standing). s.through) own_player.standing in
+      let one = left_one lines at (suc place) (omega arith) 64 (omega (arith, limit)) in
+      let enough = played.left in
+      omega (arith, count, through, one, enough)

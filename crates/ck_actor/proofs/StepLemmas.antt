@@ -2,6 +2,7 @@
 use Rattle.std.proofs.Common.{◌≡◌, ◌≤◌, ◌<◌, ◌⊎◌, inl, inr, ℕ, zero, suc, ◌+◌, ◌-◌, true, false, Option, Some, None, List, [], ◌∷◌, ◌++◌, length, take, get_or, nat_eq, nat_le, nat_lt, if◌then◌else◌, refl, sym, ap, subst, ◌∙◌, arith, length-append}
 use Rattle.std.specs.Prelude.{slice_get}
 use Rattle.std.specs.List.{cons_option, filter_map, AllByRecursion}
+use Rattle.std.specs.Option.{option_map_or}
 use Rattle.std.proofs.lemmas.Bool.Decides.{nat_tests}
 use Rattle.std.proofs.lemmas.Option.{get_or_from_slice_get, slice_get_within}
 use Rattle.ck_disk.specs.Disk.{Meaning}
@@ -104,6 +105,10 @@ had_limit origin told lines history place (Read read) on_way = had_within on_way
 -- how many turns are left at most until the call of the line is answered
 abbrev pub turns_to : ℕ → Actor → ℕ
 turns_to passed actor = if nat_le actor.place.line passed then 262145 - had_of actor.progress else 0
+
+-- of the actor at a place
+abbrev pub turns_at : ℕ → ℕ → List Actor → ℕ
+turns_at passed place actors = option_map_or (turns_to passed) (slice_get actors place) 0
 
 going_fewer : (line moved passed had next : ℕ) → next ≡ had + 1 → next < 262144 → nat_le line passed ≡ true
     → (if nat_le moved passed then 262145 - next else 0) < (if nat_le line passed then 262145 - had else 0)

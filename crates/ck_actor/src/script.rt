@@ -1,4 +1,4 @@
-ghost use Rattle.std.specs.Prelude.{◌≡◌, ◌≤◌, ◌<◌, ◌+◌, ℕ, [], None, OnOk, OnErr, IfOk, IsTrue, length, slice_get, take as list_take};
+ghost use Rattle.std.specs.Prelude.{◌≡◌, ◌≤◌, ◌<◌, ◌+◌, suc, [], None, OnOk, OnErr, IfOk, IsTrue, length, take as list_take};
 ghost use Rattle.std.specs.List.{AllByRecursion};
 ghost use Rattle.ck_model.specs.History.{IsOfScript, call_at};
 ghost use Rattle.ck_model.specs.Placed.{NoneGone};
@@ -47,7 +47,7 @@ fn take_own<D: Disk, C: Clock>(
     requires under_way { IsPlaying D.means (origin_of volume.old) (C.means clock.old) script.now.calls volume.old actors.old }
     requires built { AllByRecursion (λ line. IsBuilt line.call) script.now.calls }
     ensures stepped { (at : Standings) (known : TurnCounts) → IsUnderWay D.means (origin_of volume.old) (C.means clock.old) script.now.calls volume.old actors.old at known
-        → HasStepped D.means (origin_of volume.old) (C.means clock.old) script.now.calls (place + 1) at known volume.old volume.new actors.new }
+        → HasStepped D.means (origin_of volume.old) (C.means clock.old) script.now.calls (suc place) at known volume.old volume.new actors.new }
     ensures clock { C.means clock.new ≡ C.means clock.old }
 {
     actors[place].turn(alloc, volume, clock, script);
