@@ -3,7 +3,6 @@ use Rattle.std.proofs.Common.{◌≡◌, ◌⊎◌, inl, inr, ⊎_elim, ℕ, suc
 use mathlib.Core.Logic.{∥∥₁_map}
 use Rattle.std.specs.Prelude.{Result, Ok, Err, OnOk, IfErr}
 use Rattle.ck_disk.specs.Disk.{Image, Meaning, Lawful, Agrees, IsClean, IsSynced, LeavesOnly, Rose}
-use Rattle.ck_model.specs.declared.call.Call.{Call}
 use Rattle.ck_model.specs.declared.entry.Entry.{Entry}
 use Rattle.ck_model.specs.World.{World, unmounted}
 use Rattle.ck_model.specs.History.{CallsBy, call_at, is_write_fault}
@@ -211,7 +210,7 @@ play_begun old new asked history (answer.Broken number) printed fault = refl
 play_begun old new asked history answer.NoMemory printed fault = refl
 
 -- it ends with a status that comes once the device was opened
-pub ends_begun : (script : List (ℕ × Call)) (clock : ClockMeaning) (w : World) (mid after : Meaning) (old new : SinkMeaning) (status : Status) → EndsOn script clock w mid after old new status → leaves_device status ≡ false
+pub ends_begun : (script : Parsed) (clock : ClockMeaning) (w : World) (mid after : Meaning) (old new : SinkMeaning) (status : Status) → EndsOn script clock w mid after old new status → leaves_device status ≡ false
 ends_begun script clock w mid after old new status ends =
     ⊎_elim
     (λ (un : IsUnplayed mid after old new status). ap leaves_device un.status_is)
