@@ -172,3 +172,15 @@ module _ {D : Type 0} {g : Ghosts D} (means : D → Meaning) (origin : D) (clock
     order = completed_all lines end.first end.counts end.before (length lines) end.at end.known (places_of (history_of volume)) turns (omega arith)
         end.walked end.first_sound end.under_way.played.sound end.completed (lines_last lines built);
   }
+
+-- ---- the same origin and clock under other names
+
+pub turned_from : {D : Type 0} {g : Ghosts D} (means : D → Meaning) (origin from : D) (clock by : ClockMeaning) (lines : List Line) (turns : List ℕ) (volume : Volume D g) (actors : List Actor) → origin ≡ from → clock ≡ by
+    → AreTurned means origin clock lines turns volume actors → AreTurned means from by lines turns volume actors
+turned_from means origin from clock by lines turns volume actors same same_clock so_far =
+    subst (λ o. AreTurned means o by lines turns volume actors) same (subst (λ (m : ClockMeaning). AreTurned means origin m lines turns volume actors) same_clock so_far)
+
+pub finished_from : {D : Type 0} {g : Ghosts D} (means : D → Meaning) (origin from : D) (clock by : ClockMeaning) (lines : List Line) (turns : List ℕ) (passed : ℕ) (volume : Volume D g) (actors : List Actor) → origin ≡ from → clock ≡ by
+    → AreFinished means origin clock lines turns passed volume actors → AreFinished means from by lines turns passed volume actors
+finished_from means origin from clock by lines turns passed volume actors same same_clock so_far =
+    subst (λ o. AreFinished means o by lines turns passed volume actors) same (subst (λ (m : ClockMeaning). AreFinished means origin m lines turns passed volume actors) same_clock so_far)
