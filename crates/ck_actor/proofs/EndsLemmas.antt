@@ -27,10 +27,10 @@ use Rattle.ck_actor.specs.declared.place.Place.{Place}
 use Rattle.ck_actor.specs.Actor.{IsNew, IsOnWay, OnRead}
 use Rattle.ck_actor.specs.Counts.{TurnCounts}
 use Rattle.ck_actor.specs.Place.{answered_count, call_count}
-use Rattle.ck_actor.specs.Played.{places_of, AreBegun, AreFinished, AreTurned, IsNone, IsPlayed, IsPlayer}
+use Rattle.ck_actor.specs.Played.{places_of, AreBegun, AreFinished, AreTurned, HasStepped, IsNone, IsPlayed, IsPlayer, IsUnderWay}
 use Rattle.ck_actor.specs.Turned.{Answered}
 use Rattle.ck_actor.specs.Turns.{Follows, at_first}
-use Rattle.ck_actor.specs.Walk.{IsWalked}
+use Rattle.ck_actor.specs.Walk.{Standings, IsWalked}
 use Rattle.ck_actor.proofs.LeftLemmas.{completed_all, completed_begins}
 use Rattle.ck_actor.proofs.PlaceLemmas.{calls_as_many, numbers_in-append}
 use Rattle.ck_actor.proofs.PlayedLemmas.{left_first}
@@ -172,3 +172,25 @@ module _ {D : Type 0} {g : Ghosts D} (means : D → Meaning) (origin : D) (clock
     order = completed_all lines end.first end.counts end.before (length lines) end.at end.known (places_of (history_of volume)) turns (omega arith)
         end.walked end.first_sound end.under_way.played.sound end.completed (lines_last lines built);
   }
+
+-- ---- the same origin and clock under other names
+
+pub turned_from : {D : Type 0} {g : Ghosts D} (means : D → Meaning) (origin from : D) (clock by : ClockMeaning) (lines : List Line) (turns : List ℕ) (volume : Volume D g) (actors : List Actor) → origin ≡ from → clock ≡ by
+    → AreTurned means origin clock lines turns volume actors → AreTurned means from by lines turns volume actors
+turned_from means origin from clock by lines turns volume actors same same_clock so_far =
+    subst (λ o. AreTurned means o by lines turns volume actors) same (subst (λ (m : ClockMeaning). AreTurned means origin m lines turns volume actors) same_clock so_far)
+
+pub finished_from : {D : Type 0} {g : Ghosts D} (means : D → Meaning) (origin from : D) (clock by : ClockMeaning) (lines : List Line) (turns : List ℕ) (passed : ℕ) (volume : Volume D g) (actors : List Actor) → origin ≡ from → clock ≡ by
+    → AreFinished means origin clock lines turns passed volume actors → AreFinished means from by lines turns passed volume actors
+finished_from means origin from clock by lines turns passed volume actors same same_clock so_far =
+    subst (λ o. AreFinished means o by lines turns passed volume actors) same (subst (λ (m : ClockMeaning). AreFinished means origin m lines turns passed volume actors) same_clock so_far)
+
+pub way_from : {D : Type 0} {g : Ghosts D} (means : D → Meaning) (origin from : D) (clock by : ClockMeaning) (lines : List Line) (volume : Volume D g) (actors : List Actor) (at : Standings) (known : TurnCounts) → origin ≡ from → clock ≡ by
+    → IsUnderWay means origin clock lines volume actors at known → IsUnderWay means from by lines volume actors at known
+way_from means origin from clock by lines volume actors at known same same_clock way =
+    subst (λ o. IsUnderWay means o by lines volume actors at known) same (subst (λ (m : ClockMeaning). IsUnderWay means origin m lines volume actors at known) same_clock way)
+
+pub stepped_from : {D : Type 0} {g : Ghosts D} (means : D → Meaning) (origin from : D) (clock by : ClockMeaning) (lines : List Line) (number : ℕ) (at : Standings) (known : TurnCounts) (before after : Volume D g) (actors : List Actor) → origin ≡ from → clock ≡ by
+    → HasStepped means origin clock lines number at known before after actors → HasStepped means from by lines number at known before after actors
+stepped_from means origin from clock by lines number at known before after actors same same_clock stepped =
+    subst (λ o. HasStepped means o by lines number at known before after actors) same (subst (λ (m : ClockMeaning). HasStepped means origin m lines number at known before after actors) same_clock stepped)

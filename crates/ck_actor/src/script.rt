@@ -110,7 +110,8 @@ fn finish<D: Disk, C: Clock>(
     ensures finished { AreFinished D.means (origin_of volume.old) (C.means clock.old) script.now.calls script.now.turns (line + 1) volume.new actors.new }
     ensures clock { C.means clock.new ≡ C.means clock.old }
 {
-    let place = script.calls.items()[line].actor as usize - 1;
+    let lines = script.calls.items();
+    let place = lines[line].actor as usize - 1;
     while actors[place].is_left(line) {
         take_own(alloc, volume, script, clock, actors, place);
     }
