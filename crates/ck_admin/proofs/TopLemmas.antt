@@ -215,7 +215,7 @@ ends_begun script clock w mid after old new status ends =
     ⊎_elim
     (λ (un : IsUnplayed mid after old new status). ap leaves_device un.status_is)
     (λ (p : IsPrinted script clock w mid after old new status).
-    ap leaves_device p.status_is ∙ play_begun old new (call_at script) p.history p.committed p.printed p.fault)
+    ap leaves_device p.status_is ∙ play_begun old new (call_at (calls_in script.calls)) p.history p.committed p.printed p.fault)
     ends
 
 -- ---- a device that isn't opened
