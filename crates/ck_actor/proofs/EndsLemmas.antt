@@ -37,10 +37,16 @@ use Rattle.ck_actor.proofs.PlayedLemmas.{left_first}
 use Rattle.ck_actor.proofs.StepLemmas.{lines_last}
 use Rattle.ck_actor.proofs.TurnLemmas.{walk_begins}
 
+below : (m n : ℕ) → nat_lt m n ≡ true → m < n
+below m n h = grind (arith, nat_tests)
+
+not_below : (m n : ℕ) → nat_lt m n ≡ false → n ≤ m
+not_below m n h = grind (arith, nat_tests)
+
 -- ---- before the first turn
 
 -- each call takes one turn, as far as is known
-once : TurnCounts
+abbrev once : TurnCounts
 once actor seq = 1
 
 new_player : (origin : Meaning) (clock : ClockMeaning) (lines : List Line) (number : ℕ) (actor : Actor) → IsNew number actor → IsPlayer origin clock lines at_first (record { told = []; history = [] }) number actor
@@ -141,7 +147,7 @@ module _ {D : Type 0} {g : Ghosts D} (means : D → Meaning) (origin : D) (clock
             let actor = there.0 in
             let player = played.players place actor there.2 in
             let number = player.number_is in
-            let whole : take (length lines) lines ≡ lines = take_all lines (length lines) (omega arith) in
+            let whole : take (length lines) lines ≡ lines = take_all (length lines) lines (omega arith) in
             let all : call_count lines (suc place) ≤ (end.at (suc place)).through = subst (λ (xs : List Line). call_count xs (suc place) ≤ (end.at (suc place)).through) whole (end.completed.all (suc place)) in
             let through : answered_count lines actor.place ≡ (end.at (suc place)).through = ap (λ s. s.through) player.standing in
             let here : call_count (take actor.place.line lines) (suc place) ≡ answered_count lines actor.place = ap (call_count (take actor.place.line lines)) (sym number) in
@@ -157,9 +163,10 @@ module _ {D : Type 0} {g : Ghosts D} (means : D → Meaning) (origin : D) (clock
   whole_script numbered among zero = no_entries lines (history_of volume) 0 numbered (end.under_way.played.others 0 (inl refl)) (none_numbers lines 0 among (inl refl))
   whole_script numbered among (suc place) =
       elim (nat_lt place 64) as (λ b. nat_lt place 64 ≡ b → numbers_of (history_of volume) (suc place) ≡ range_with_len 1 (length (calls_of (calls_in lines) (suc place)))) [
-        | true ↦ λ less. let within : place < 64 = grind (arith, nat_tests, less) in own_entries place within numbered
+        | true ↦ λ less. own_entries place (below place 64 less) numbered
         | false ↦ λ not_less.
-            let above : 64 < suc place = grind (arith, nat_tests, not_less) in
+            let low = not_below place 64 not_less in
+            let above : 64 < suc place = omega (arith, low) in
             no_entries lines (history_of volume) (suc place) numbered (end.under_way.played.others (suc place) (inr above)) (none_numbers lines (suc place) among (inr above))
       ] refl
 

@@ -4,7 +4,7 @@ use Rattle.std.specs.Prelude.{slice_get}
 use Rattle.std.specs.List.{cons_option, filter_map, AllByRecursion}
 use Rattle.std.specs.Option.{option_map_or}
 use Rattle.std.proofs.lemmas.Bool.Decides.{nat_tests}
-use Rattle.std.proofs.lemmas.Option.{get_or_from_slice_get, slice_get_within}
+use Rattle.std.proofs.lemmas.Option.{get_or_from_slice_get, slice_get-get_or, slice_get_within}
 use Rattle.ck_disk.specs.Disk.{Meaning}
 use Rattle.ck_disk.specs.declared.disk.Disk.{Ghosts}
 use Rattle.ck_io.specs.Clock.{ClockMeaning}
@@ -132,6 +132,7 @@ pub record IsFinishing {D : Type 0} {g : Ghosts D} (means : D → Meaning) (orig
   pub line : Line
   pub line_is : slice_get lines passed ≡ Some line
   pub place_is : suc place ≡ line.actor
+  pub limit : place < 64
   pub first : Standings
   pub counts : TurnCounts
   pub before : List (ℕ × ℕ)
@@ -255,15 +256,25 @@ module _ (lines : List Line) (first : Standings) (counts : TurnCounts) (before :
               gone_fewer actor.place.line moved.place.line passed (had_of actor.progress) (had_of moved.progress) behind few left
         ]
 
+is_low : (m n : ℕ) → m ≤ n → nat_le m n ≡ true
+is_low m n h = grind (arith, nat_tests)
+
+pub from_low : (m n : ℕ) → nat_le m n ≡ true → m ≤ n
+from_low m n h = grind (arith, nat_tests)
+
+pub from_high : (m n : ℕ) → nat_le m n ≡ false → n < m
+from_high m n h = grind (arith, nat_tests)
+
 -- ---- an actor's turns until its line's call is answered
 
 module _ {D : Type 0} {g : Ghosts D} (means : D → Meaning) (origin : D) (clock : ClockMeaning) (lines : List Line) (turns : List ℕ) (passed place : ℕ) (numbered : IsNumbered lines) where
-  pub finish_begins : (line : Line) (volume : Volume D g) (actors : List Actor) → slice_get lines passed ≡ Some line → suc place ≡ line.actor → AreFinished means origin clock lines turns passed volume actors
+  pub finish_begins : (line : Line) (volume : Volume D g) (actors : List Actor) → slice_get lines passed ≡ Some line → suc place ≡ line.actor → place < 64 → AreFinished means origin clock lines turns passed volume actors
       → IsFinishing means origin clock lines turns passed place volume actors
-  finish_begins line volume actors is place_is so_far = record {
+  finish_begins line volume actors is place_is limit so_far = record {
     line = line;
     line_is = is;
     place_is = place_is;
+    limit = limit;
     first = so_far.first;
     counts = so_far.counts;
     before = so_far.before;
@@ -327,6 +338,7 @@ module _ {D : Type 0} {g : Ghosts D} (means : D → Meaning) (origin : D) (clock
         line = way.line;
         line_is = way.line_is;
         place_is = way.place_is;
+        limit = way.limit;
         first = way.first;
         counts = way.counts;
         before = way.before;
@@ -341,9 +353,19 @@ module _ {D : Type 0} {g : Ghosts D} (means : D → Meaning) (origin : D) (clock
       pub finish_fewer : (next : Actor) → slice_get moved place ≡ Some next → turns_to passed next < turns_to passed actor
       finish_fewer next is =
           let behind = stepped.under_way.played.players place next is in
-          let left : nat_le actor.place.line passed ≡ true = grind (arith, nat_tests, low) in
+          let left = is_low actor.place.line passed low in
           turns_fewer lines way.first way.counts way.before passed way.line numbered inside here way.at stepped.next way.known stepped.counts (places_of (history_of volume)) (places_of (history_of after)) less
           actor next step way.half stood (behind.standing ∙ ap stepped.next way.place_is) (behind.number_is ∙ way.place_is)
           (had_limit (means origin) (answered_by_now volume).told lines (history_of volume) actor.place actor.progress player.stands.on_way)
           (had_limit (means origin) (answered_by_now after).told lines (history_of after) next.place next.progress behind.stands.on_way)
           left
+
+      pub finish_smaller : turns_at passed place moved < turns_at passed place actors
+      finish_smaller =
+          let played = stepped.under_way.played in
+          let many = played.many in
+          let limit = way.limit in
+          let next = get_or moved place actor in
+          let there_next : slice_get moved place ≡ Some next = slice_get-get_or moved place actor (omega (arith, many, limit)) in
+          subst (λ n. n < turns_at passed place actors) (sym (ap (λ o. option_map_or (turns_to passed) o 0) there_next))
+          (subst (λ n. turns_to passed next < n) (sym (ap (λ o. option_map_or (turns_to passed) o 0) there)) (finish_fewer next there_next))

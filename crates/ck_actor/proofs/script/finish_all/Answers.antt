@@ -1,4 +1,5 @@
-use Rattle.std.proofs.Common.{◌≡◌, ◌+◌, List, length, refl, sym, ap, subst, ◌∙◌, arith}
+use Rattle.ck_script.specs.declared.line.Line.{Line}
+use Rattle.std.proofs.Common.{◌≡◌, ◌≤◌, ◌+◌, List, length, refl, sym, ap, subst, ◌∙◌, arith}
 use Rattle.ck_volume.specs.Volume.{origin_of}
 use Rattle.ck_actor.specs.Played.{AreFinished}
 use Rattle.ck_actor.proofs.EndsLemmas.{finished_from, first_finished}
@@ -30,3 +31,11 @@ loop-line-preserved g c =
           inv.finished.under_way.origin_is inv.clock c.finish.ensures.finished;
       clock = c.finish.ensures.clock ∙ inv.clock;
     }
+
+pub returns-clause-finished : goal.returns-clause-finished
+returns-clause-finished g c =
+    let script = c.args.script.now in
+    let past : length script.calls ≤ c.loop-line.line = subst (λ (xs : List Line). length xs ≤ c.loop-line.line) c.items-line-end.ensures c.loop-line-test.false in
+    let low : c.loop-line.line ≤ length script.calls = subst (λ (xs : List Line). c.loop-line.line ≤ length xs) c.items-line-end.ensures (omega (arith, c.loop-line.auto.line-end)) in
+    let is : c.loop-line.line ≡ length script.calls = omega (arith, past, low) in
+    subst (λ n. AreFinished g.D.Disk.means (origin_of c.args.volume.now) (g.C.Clock.means c.args.clock.now) script.calls script.turns n c.loop-line.volume c.loop-line.actors) is c.loop-line.invariant.finished

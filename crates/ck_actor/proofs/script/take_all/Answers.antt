@@ -1,4 +1,4 @@
-use Rattle.std.proofs.Common.{◌≡◌, ◌+◌, List, length, take as list_take, refl, sym, ap, subst, ◌∙◌, arith}
+use Rattle.std.proofs.Common.{◌≡◌, ◌≤◌, ◌+◌, ℕ, List, length, take as list_take, refl, sym, ap, subst, ◌∙◌, arith}
 use Rattle.std.proofs.lemmas.List.{take_all}
 use Rattle.ck_volume.specs.Volume.{origin_of}
 use Rattle.ck_actor.specs.Played.{AreTurned}
@@ -26,3 +26,10 @@ loop-at-preserved g c =
           inv.turned.under_way.origin_is inv.clock c.take.ensures.turned;
       clock = c.take.ensures.clock ∙ inv.clock;
     }
+
+pub returns-clause-turned : goal.returns-clause-turned
+returns-clause-turned g c =
+    let script = c.args.script.now in
+    let past : length script.turns ≤ c.loop-at.at = subst (λ (xs : List ℕ). length xs ≤ c.loop-at.at) c.items-at-end.ensures c.loop-at-test.false in
+    subst (λ turns. AreTurned g.D.Disk.means (origin_of c.args.volume.now) (g.C.Clock.means c.args.clock.now) script.calls turns c.loop-at.volume c.loop-at.actors)
+    (take_all c.loop-at.at script.turns past) c.loop-at.invariant.turned
