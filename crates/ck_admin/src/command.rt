@@ -163,7 +163,8 @@ pub fn top<S: Source, K: Sink, E: Sink, D: Disk, C: Clock>(
     ensures usage { is_usage result.status ≡ is_none (command_of (list_map string_bytes words.now)) }
     ensures untouched { OnFalse (is_play (command_of (list_map string_bytes words.now))) (IsUntouched (S.means source.old) (S.means source.new) (K.means out.old) (K.means out.new)) }
 
-    // What a play prints is the transcript of one legal history that holds each actor's calls once and in its order. Its
+    // What a play prints is the transcript of one legal history that holds each actor's calls once and in its order, and
+    // follows the script's turns. Its
     // numbers, bytes and names are such that the transcript tells the history (`ck_report::texts_tell`). Each
     // image that a crash may leave recovers a prefix of it, at the end one that holds every acknowledged sync, and after
     // the status Done the whole. Each fault in it, and each other ending, has its cause.
