@@ -145,7 +145,7 @@ fn read<D: Disk>(
 }
 
 /// One event of an actor's call at a moment, on a volume that isn't broken.
-fn turn<D: Disk>(
+fn one_event<D: Disk>(
     engine: &mut Engine<D>,
     log: &mut Log,
     alloc: Global,
@@ -252,7 +252,7 @@ pub(crate) fn happen<D: Disk>(
             .put(entry_of(actor, seq, at, Reply::Broken(entry)));
         return Turn::Answered;
     }
-    match turn(engine, log, alloc, actor, at, call, begun) {
+    match one_event(engine, log, alloc, actor, at, call, begun) {
         ReadAnswer::More(read) => {
             *progress = Progress::Read(read);
             Turn::More

@@ -100,103 +100,103 @@ returns-in-Some-clause-removes g c = λ name is_remove done.
 
 -- ---- where it was answered
 
-pub returns-clause-survives : goal.returns-clause-survives
-returns-clause-survives g c = λ whole.
+pub returns-in-Replied-clause-survives : goal.returns-in-Replied-clause-survives
+returns-in-Replied-clause-survives g c = λ whole.
     let after = entries_of c.put-2.new.self in
-    survives-plain (newest after).given (g.D.Disk.means (disk_of c.args.engine.now)) (g.D.Disk.means (disk_of c.answer-reply.new.engine)) (present c.args.engine.now c.args.log.now) c.answer-reply.ensures.survives
+    survives-plain (newest after).given (g.D.Disk.means (disk_of c.args.engine.now)) (g.D.Disk.means (disk_of c.one_event.new.engine)) (present c.args.engine.now c.args.log.now) c.in-Replied.ensures.survives
 
-pub returns-clause-kept : goal.returns-clause-kept
-returns-clause-kept g c = λ unbroken told w keeps.
-    let middle = c.answer-reply.new.engine in
+pub returns-in-Replied-clause-kept : goal.returns-in-Replied-clause-kept
+returns-in-Replied-clause-kept g c = λ unbroken told w keeps.
+    let middle = c.one_event.new.engine in
     let new = g.D.Disk.means (disk_of middle) in
     let here : World = world_of (g.D.Disk.means (disk_of c.args.engine.now)).shows c.args.engine.now in
     ⊎_elim
     (λ (same : KeepsWorld new middle w). inl same)
     (λ (last : KeepsWorld new middle (unmounted here)). inr (0, (omega arith, last)))
-    (c.answer-reply.ensures.kept unbroken told w keeps)
+    (c.in-Replied.ensures.kept unbroken told w keeps)
 
-pub returns-clause-added : goal.returns-clause-added
-returns-clause-added g c =
+pub returns-in-Replied-clause-added : goal.returns-in-Replied-clause-added
+returns-in-Replied-clause-added g c =
     let before = entries_of c.args.log.now.history in
     let after = entries_of c.put-2.new.self in
-    let put : after ≡ before ++ c.entry_of-2.result ∷ [] = c.put-2.ensures.entries ∙ ap (λ (h : History). entries_of h ++ c.entry_of-2.result ∷ []) c.answer-reply.ensures.history in
+    let put : after ≡ before ++ c.entry_of-2.result ∷ [] = c.put-2.ensures.entries ∙ ap (λ (h : History). entries_of h ++ c.entry_of-2.result ∷ []) c.in-Replied.ensures.history in
     added-put before after c.entry_of-2.result put
 
-pub returns-clause-entry : goal.returns-clause-entry
-returns-clause-entry g c =
+pub returns-in-Replied-clause-entry : goal.returns-in-Replied-clause-entry
+returns-in-Replied-clause-entry g c =
     let before = entries_of c.args.log.now.history in
     let after = entries_of c.put-2.new.self in
-    let put : after ≡ before ++ c.entry_of-2.result ∷ [] = c.put-2.ensures.entries ∙ ap (λ (h : History). entries_of h ++ c.entry_of-2.result ∷ []) c.answer-reply.ensures.history in
+    let put : after ≡ before ++ c.entry_of-2.result ∷ [] = c.put-2.ensures.entries ∙ ap (λ (h : History). entries_of h ++ c.entry_of-2.result ∷ []) c.in-Replied.ensures.history in
     let same : newest after ≡ c.entry_of-2.result = newest-put before after c.entry_of-2.result put in
-    is-entry c.args.actor c.args.seq c.args.at c.answer-reply.result (newest after) (same ∙ c.entry_of-2.ensures)
+    is-entry c.args.actor c.args.seq c.args.at c.in-Replied.reply (newest after) (same ∙ c.entry_of-2.ensures)
 
-pub returns-clause-follows : goal.returns-clause-follows
-returns-clause-follows g c = λ told texts calls is_call.
+pub returns-in-Replied-clause-follows : goal.returns-in-Replied-clause-follows
+returns-in-Replied-clause-follows g c = λ told texts calls is_call.
     let unbroken : c.args.log.now.broken ≡ None = search rules in
     let before = entries_of c.args.log.now.history in
     let after = entries_of c.put-2.new.self in
-    let put : after ≡ before ++ c.entry_of-2.result ∷ [] = c.put-2.ensures.entries ∙ ap (λ (h : History). entries_of h ++ c.entry_of-2.result ∷ []) c.answer-reply.ensures.history in
+    let put : after ≡ before ++ c.entry_of-2.result ∷ [] = c.put-2.ensures.entries ∙ ap (λ (h : History). entries_of h ++ c.entry_of-2.result ∷ []) c.in-Replied.ensures.history in
     let same : newest after ≡ c.entry_of-2.result = newest-put before after c.entry_of-2.result put in
     let w : World = world_of (g.D.Disk.means (disk_of c.args.engine.now)).shows c.args.engine.now in
-    let next : World = world_of (g.D.Disk.means (disk_of c.answer-reply.new.engine)).shows c.answer-reply.new.engine in
-    answered-put texts calls w (length (entries_of c.args.log.now.history)) c.args.actor c.args.seq c.args.at c.args.call.now is_call c.args.log.now.broken c.answer-reply.new.log.broken _ (newest after) c.answer-reply.result next
-    unbroken c.answer-reply.ensures.broken (longer-put before after c.entry_of-2.result put) (same ∙ c.entry_of-2.ensures) (c.answer-reply.ensures.answers told texts) c.answer-reply.ensures.not_refused
+    let next : World = world_of (g.D.Disk.means (disk_of c.one_event.new.engine)).shows c.one_event.new.engine in
+    answered-put texts calls w (length (entries_of c.args.log.now.history)) c.args.actor c.args.seq c.args.at c.args.call.now is_call c.args.log.now.broken c.one_event.new.log.broken _ (newest after) c.in-Replied.reply next
+    unbroken c.in-Replied.ensures.broken (longer-put before after c.entry_of-2.result put) (same ∙ c.entry_of-2.ensures) (c.in-Replied.ensures.answers told texts) c.in-Replied.ensures.not_refused
 
-pub returns-clause-broken : goal.returns-clause-broken
-returns-clause-broken g c =
+pub returns-in-Replied-clause-broken : goal.returns-in-Replied-clause-broken
+returns-in-Replied-clause-broken g c =
     let unbroken : c.args.log.now.broken ≡ None = search rules in
     let before = entries_of c.args.log.now.history in
     let after = entries_of c.put-2.new.self in
-    let put : after ≡ before ++ c.entry_of-2.result ∷ [] = c.put-2.ensures.entries ∙ ap (λ (h : History). entries_of h ++ c.entry_of-2.result ∷ []) c.answer-reply.ensures.history in
+    let put : after ≡ before ++ c.entry_of-2.result ∷ [] = c.put-2.ensures.entries ∙ ap (λ (h : History). entries_of h ++ c.entry_of-2.result ∷ []) c.in-Replied.ensures.history in
     let same : newest after ≡ c.entry_of-2.result = newest-put before after c.entry_of-2.result put in
-    let replied : (newest after).reply ≡ c.answer-reply.result = ap (λ (e : Entry). e.reply) (same ∙ c.entry_of-2.ensures) in
-    c.answer-reply.ensures.broken
+    let replied : (newest after).reply ≡ c.in-Replied.reply = ap (λ (e : Entry). e.reply) (same ∙ c.entry_of-2.ensures) in
+    c.in-Replied.ensures.broken
     ∙ ap (λ (reply : Reply). if is_write_fault reply then Some (length (entries_of c.args.log.now.history)) else None) (sym replied)
     ∙ ap (λ (o : Option ℕ). option_or o (if is_write_fault (newest after).reply then Some (length (entries_of c.args.log.now.history)) else None)) (sym unbroken)
 
-pub returns-clause-refused : goal.returns-clause-refused
-returns-clause-refused g c =
+pub returns-in-Replied-clause-refused : goal.returns-in-Replied-clause-refused
+returns-in-Replied-clause-refused g c =
     let unbroken : c.args.log.now.broken ≡ None = search rules in
     let before = entries_of c.args.log.now.history in
     let after = entries_of c.put-2.new.self in
-    let put : after ≡ before ++ c.entry_of-2.result ∷ [] = c.put-2.ensures.entries ∙ ap (λ (h : History). entries_of h ++ c.entry_of-2.result ∷ []) c.answer-reply.ensures.history in
+    let put : after ≡ before ++ c.entry_of-2.result ∷ [] = c.put-2.ensures.entries ∙ ap (λ (h : History). entries_of h ++ c.entry_of-2.result ∷ []) c.in-Replied.ensures.history in
     let same : newest after ≡ c.entry_of-2.result = newest-put before after c.entry_of-2.result put in
-    let replied : (newest after).reply ≡ c.answer-reply.result = ap (λ (e : Entry). e.reply) (same ∙ c.entry_of-2.ensures) in
+    let replied : (newest after).reply ≡ c.in-Replied.reply = ap (λ (e : Entry). e.reply) (same ∙ c.entry_of-2.ensures) in
     subst (λ (o : Option ℕ). MatchOption o (is_broken (newest after).reply ≡ false) (λ number. (newest after).reply ≡ Broken number)) (sym unbroken)
-    (ap is_broken replied ∙ c.answer-reply.ensures.not_refused)
+    (ap is_broken replied ∙ c.in-Replied.ensures.not_refused)
 
-pub returns-clause-cause : goal.returns-clause-cause
-returns-clause-cause g c =
+pub returns-in-Replied-clause-cause : goal.returns-in-Replied-clause-cause
+returns-in-Replied-clause-cause g c =
     let before = entries_of c.args.log.now.history in
     let after = entries_of c.put-2.new.self in
-    let put : after ≡ before ++ c.entry_of-2.result ∷ [] = c.put-2.ensures.entries ∙ ap (λ (h : History). entries_of h ++ c.entry_of-2.result ∷ []) c.answer-reply.ensures.history in
+    let put : after ≡ before ++ c.entry_of-2.result ∷ [] = c.put-2.ensures.entries ∙ ap (λ (h : History). entries_of h ++ c.entry_of-2.result ∷ []) c.in-Replied.ensures.history in
     let same : newest after ≡ c.entry_of-2.result = newest-put before after c.entry_of-2.result put in
-    let replied : (newest after).reply ≡ c.answer-reply.result = ap (λ (e : Entry). e.reply) (same ∙ c.entry_of-2.ensures) in
-    subst (HasCause (g.D.Disk.means (disk_of c.args.engine.now)) (g.D.Disk.means (disk_of c.answer-reply.new.engine))) (sym replied) c.answer-reply.ensures.cause
+    let replied : (newest after).reply ≡ c.in-Replied.reply = ap (λ (e : Entry). e.reply) (same ∙ c.entry_of-2.ensures) in
+    subst (HasCause (g.D.Disk.means (disk_of c.args.engine.now)) (g.D.Disk.means (disk_of c.one_event.new.engine))) (sym replied) c.in-Replied.ensures.cause
 
-pub returns-clause-synced : goal.returns-clause-synced
-returns-clause-synced g c = λ is_sync ordinary told w keeps.
+pub returns-in-Replied-clause-synced : goal.returns-in-Replied-clause-synced
+returns-in-Replied-clause-synced g c = λ is_sync ordinary told w keeps.
     let before = entries_of c.args.log.now.history in
     let after = entries_of c.put-2.new.self in
-    let put : after ≡ before ++ c.entry_of-2.result ∷ [] = c.put-2.ensures.entries ∙ ap (λ (h : History). entries_of h ++ c.entry_of-2.result ∷ []) c.answer-reply.ensures.history in
+    let put : after ≡ before ++ c.entry_of-2.result ∷ [] = c.put-2.ensures.entries ∙ ap (λ (h : History). entries_of h ++ c.entry_of-2.result ∷ []) c.in-Replied.ensures.history in
     let same : newest after ≡ c.entry_of-2.result = newest-put before after c.entry_of-2.result put in
-    let replied : (newest after).reply ≡ c.answer-reply.result = ap (λ (e : Entry). e.reply) (same ∙ c.entry_of-2.ensures) in
-    c.answer-reply.ensures.synced is_sync (sym (ap is_fault replied) ∙ ordinary) told w keeps
+    let replied : (newest after).reply ≡ c.in-Replied.reply = ap (λ (e : Entry). e.reply) (same ∙ c.entry_of-2.ensures) in
+    c.in-Replied.ensures.synced is_sync (sym (ap is_fault replied) ∙ ordinary) told w keeps
 
-pub returns-clause-freezes : goal.returns-clause-freezes
-returns-clause-freezes g c = λ name nodata removable is_create created.
+pub returns-in-Replied-clause-freezes : goal.returns-in-Replied-clause-freezes
+returns-in-Replied-clause-freezes g c = λ name nodata removable is_create created.
     let before = entries_of c.args.log.now.history in
     let after = entries_of c.put-2.new.self in
-    let put : after ≡ before ++ c.entry_of-2.result ∷ [] = c.put-2.ensures.entries ∙ ap (λ (h : History). entries_of h ++ c.entry_of-2.result ∷ []) c.answer-reply.ensures.history in
+    let put : after ≡ before ++ c.entry_of-2.result ∷ [] = c.put-2.ensures.entries ∙ ap (λ (h : History). entries_of h ++ c.entry_of-2.result ∷ []) c.in-Replied.ensures.history in
     let same : newest after ≡ c.entry_of-2.result = newest-put before after c.entry_of-2.result put in
-    let replied : (newest after).reply ≡ c.answer-reply.result = ap (λ (e : Entry). e.reply) (same ∙ c.entry_of-2.ensures) in
-    c.answer-reply.ensures.freezes name nodata removable is_create (subst IsSome (ap created_id replied) created)
+    let replied : (newest after).reply ≡ c.in-Replied.reply = ap (λ (e : Entry). e.reply) (same ∙ c.entry_of-2.ensures) in
+    c.in-Replied.ensures.freezes name nodata removable is_create (subst IsSome (ap created_id replied) created)
 
-pub returns-clause-removes : goal.returns-clause-removes
-returns-clause-removes g c = λ name is_remove done.
+pub returns-in-Replied-clause-removes : goal.returns-in-Replied-clause-removes
+returns-in-Replied-clause-removes g c = λ name is_remove done.
     let before = entries_of c.args.log.now.history in
     let after = entries_of c.put-2.new.self in
-    let put : after ≡ before ++ c.entry_of-2.result ∷ [] = c.put-2.ensures.entries ∙ ap (λ (h : History). entries_of h ++ c.entry_of-2.result ∷ []) c.answer-reply.ensures.history in
+    let put : after ≡ before ++ c.entry_of-2.result ∷ [] = c.put-2.ensures.entries ∙ ap (λ (h : History). entries_of h ++ c.entry_of-2.result ∷ []) c.in-Replied.ensures.history in
     let same : newest after ≡ c.entry_of-2.result = newest-put before after c.entry_of-2.result put in
-    let replied : (newest after).reply ≡ c.answer-reply.result = ap (λ (e : Entry). e.reply) (same ∙ c.entry_of-2.ensures) in
-    c.answer-reply.ensures.removes name is_remove (sym replied ∙ done)
+    let replied : (newest after).reply ≡ c.in-Replied.reply = ap (λ (e : Entry). e.reply) (same ∙ c.entry_of-2.ensures) in
+    c.in-Replied.ensures.removes name is_remove (sym replied ∙ done)

@@ -7,7 +7,10 @@ use Rattle.ck_volume.specs.Present.{present, history_of, broken_of}
 use Rattle.ck_volume.specs.Event.{newest}
 use Rattle.ck_volume.specs.Kept.{broken_by}
 use Rattle.ck_volume.specs.Told.{told_of}
+use Rattle.ck_volume.proofs.CallsLemmas.{calls-told}
 use Rattle.ck_volume.proofs.CausesLemmas.{causes-more}
+use Rattle.ck_volume.proofs.FitsLaws.{fits_world, now_fits}
+use Rattle.ck_volume.proofs.QuietLemmas.{kept-read}
 use Rattle.ck_disk.proofs.RunLaws.{runs-more}
 use Rattle.ck_volume.proofs.CutsAfter.{cuts-event}
 use Rattle.ck_volume.proofs.EventLemmas.{longer-put}
@@ -47,6 +50,8 @@ invariant_of-self g c =
         causes = subst (λ (h : List Entry). HasCauses origin new h) (sym event.added) (causes-more origin mid new old entry volume.kept.causes event.runs event.cause);
         breaks = or-entry (broken_by 0 None (history_of after)) volume.spoilt.value (broken_of after) broken c.requires.unspoilt;
         replies = ∥∥₁_map volume.kept.replies (λ breaks. replies-more old (history_of after) entry (broken_of before) was event.added event.refused breaks);
+        begins = ∥∥₁_map volume.kept.begins (λ has.
+            calls-told origin (told_of volume.told) (told_of c.more.result) c.args.call.now old (history_of after) entry c.args.actor c.args.seq c.args.at c.more.ensures event.added event.entry c.requires.number has);
         stands = ∥∥₁_map volume.kept.stands
             (λ stands. stands-told origin mid new (told_of volume.told) (told_of c.more.result) before after c.args.call.now entry c.args.actor c.args.seq c.args.at stands c.more.ensures volume.kept.runs.tells event.added event.entry event.follows was broken);
         within = within-event volume.committed.value committed (length old) (length (history_of after)) c.acknowledged-synced.result volume.kept.within longer now;

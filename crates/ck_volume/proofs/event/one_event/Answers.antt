@@ -8,7 +8,7 @@ use Rattle.ck_engine.specs.Engine.{disk_of, world_of}
 use Rattle.ck_volume.specs.Event.{Answers}
 use Rattle.ck_volume.specs.Progress.{had_of, FitsWorld, IsBegunFor, IsLastOf, IsNowOf, IsOfCall}
 use Rattle.ck_volume.proofs.TurnLemmas.{on_same, on_more, each_reply, each_read}
-use Rattle.ck_volume.proofs.event.turn.Goals as goal
+use Rattle.ck_volume.proofs.event.one_event.Goals as goal
 
 not_create : {letter at len : ℕ} {path : List (List ℕ)} {n : List ℕ} {nodata removable : Bool} (call : Call) → call ≡ Cread letter path at len → call ≡ Create n nodata removable → ⊥
 not_create call is create = cc
