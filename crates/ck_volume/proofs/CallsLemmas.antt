@@ -25,7 +25,7 @@ numbers-more [] entry actor =
 numbers-more (first ∷ history) entry actor =
     let rest = numbers-more history entry actor in
     elim (nat_eq first.actor actor) as (λ b.
-        length (cons_option (if b then Some first.seq else None) (numbers_of (history ++ entry ∷ []) actor)) ≡ length (cons_option (if b then Some first.seq else None) (numbers_of history actor)) + (if nat_eq entry.actor actor then 1 else 0)) [
+    length (cons_option (if b then Some first.seq else None) (numbers_of (history ++ entry ∷ []) actor)) ≡ length (cons_option (if b then Some first.seq else None) (numbers_of history actor)) + (if nat_eq entry.actor actor then 1 else 0)) [
       | true ↦ omega (arith, rest)
       | false ↦ rest
     ]

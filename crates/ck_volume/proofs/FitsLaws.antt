@@ -1,6 +1,9 @@
 -- What a read that is on its way has to do with the history and with the present world.
-use Rattle.std.proofs.Common.{◌≡◌, ◌≢◌, ◌≤◌, ◌<◌, ℕ, ◌+◌, ◌-◌, Bool, true, false, Option, Some, None, List, [], ◌∷◌, ◌++◌, length, find, min, nat_eq, Result, if◌then◌else◌, IsTrue, refl, sym, ap, subst, ◌∙◌, arith}
+use Rattle.std.proofs.Common.{◌≡◌, ◌≢◌, ◌≤◌, ◌<◌, ◌⊎◌, inl, inr, ℕ, zero, suc, ◌+◌, ◌-◌, ◌/◌, Bool, true, false, Option, Some, None, List, [], ◌∷◌, ◌++◌, length, find, min, nat_eq, Result, if◌then◌else◌, IsTrue, refl, sym, ap, subst, ◌∙◌, arith}
 use Rattle.std.specs.Prelude.{⊤}
+use Rattle.std.specs.List.{range_with_len}
+use Rattle.std.proofs.lemmas.Bool.{cases_lt}
+use Rattle.std.proofs.lemmas.Bool.Decides.{nat_tests}
 use Rattle.std.specs.Coded.{Coded-set, coded_ℕ, coded_result}
 use Rattle.std.specs.FinMap as map
 use Rattle.std.proofs.Props.{props}
@@ -13,6 +16,7 @@ use Rattle.ck_model.specs.declared.checkpoint.Kind.TheVariants.{Keeping}
 use Rattle.ck_model.specs.declared.entry.Entry.{Entry}
 use Rattle.ck_model.specs.declared.reply.Reply.{Reply}
 use Rattle.ck_model.specs.Cells.{Cells, size_at}
+use Rattle.ck_model.specs.Changes.{touched}
 use Rattle.ck_model.specs.Streams.{Texts}
 use Rattle.ck_model.specs.World.{World, Checkpoint, has_id}
 use Rattle.ck_model.specs.History.{CallsBy, IsLegal, begun, past_of, numbers_of, state}
@@ -31,7 +35,7 @@ use Rattle.ck_volume.specs.declared.event.Progress.{Progress}
 use Rattle.ck_volume.specs.declared.event.Progress.TheVariants as progress
 use Rattle.ck_volume.specs.Kept.{HasCalls, Stands, broken_by}
 use Rattle.ck_volume.specs.Present.{Present, history_of, world_of}
-use Rattle.ck_volume.specs.Progress.{reading_of, IsBegunFor, FitsHistory, FitsNow, FitsWorld}
+use Rattle.ck_volume.specs.Progress.{had_of, reading_of, IsBegunFor, FitsHistory, FitsNow, FitsWorld}
 use Rattle.ck_volume.specs.Told.{AreAnswered}
 use Rattle.ck_volume.proofs.ToldLaws.{answered-before}
 
@@ -150,10 +154,10 @@ none_of entry actor apart =
 
 pub fits_others : (origin : Meaning) (told : List Call) (other : Call) (history : List Entry) (entry : Entry) (actor : ℕ) (call : Call) (p : Progress) → entry.actor ≢ actor
     → FitsHistory origin told history actor call p → FitsHistory origin (told ++ other ∷ []) (history ++ entry ∷ []) actor call p
-fits_others origin told other history entry actor call progress.Fresh apart fits = tt
-fits_others origin told other history entry actor call (progress.Read read) apart fits = λ is_told w found texts calls answered.
-    fits_last_lem texts calls w history (entry ∷ []) actor call (reading_of read) (none_of entry actor apart)
-    (fits is_told w found texts calls (answered-before calls told other history entry answered).0)
+fits_others origin told other before entry actor call progress.Fresh apart fits = tt
+fits_others origin told other before entry actor call (progress.Read read) apart fits = λ is_told w found texts calls answered.
+    fits_last_lem texts calls w before (entry ∷ []) actor call (reading_of read) (none_of entry actor apart)
+    (fits is_told w found texts calls (answered-before calls told other before entry answered).0)
 
 -- ---- its turns
 
@@ -173,3 +177,38 @@ one_turn place count = omega arith
 
 pub had_below : (read : ReadProgress) → turns_had read + 1 ≤ all_turns read
 had_below read = one_left (all_turns read) (turns_left read) (one_turn read.from (read.to - read.from)) (one_turn (next_place read) (left_len read))
+
+-- ---- and no more than a file has blocks
+
+range-length : (first count : ℕ) → length (range_with_len first count) ≡ count
+range-length first zero = refl
+range-length first (suc count) = ap suc (range-length (first + 1) count)
+
+touched_within : (place count : ℕ) → (count ≡ 0) ⊎ (place + count ≤ 1073741824) → length (touched place count) ≤ 262144
+touched_within place count within =
+    elim (nat_eq count 0) as (λ b. nat_eq count 0 ≡ b → length (range_with_len (place / 4096) (if b then 0 else (place + count + 4095) / 4096 - place / 4096)) ≤ 262144) [
+      | true ↦ λ _. omega arith
+      | false ↦ λ some.
+          let many = range-length (place / 4096) ((place + count + 4095) / 4096 - place / 4096) in
+          elim within [
+            | inl none ↦ absurd (grind (arith, nat_tests, none, some))
+            | inr low ↦ omega (arith, many, low)
+          ]
+    ] refl
+
+all_within : (read : ReadProgress) → read.to ≤ 1073741824 → all_turns read ≤ 262144
+all_within read low =
+    let many = touched_within read.from (read.to - read.from) (elim (cases_lt read.from read.to) [
+      | inl ahead ↦ inr (omega (arith, low, ahead))
+      | inr none ↦ inl (omega (arith, none))
+    ]) in
+    omega (arith, many)
+
+-- so a call goes on over no more events
+pub had_within : (call : Call) (p : Progress) → IsBegunFor call p → had_of p < 262144
+had_within call progress.Fresh begun = omega arith
+had_within (Cread letter path at len) (progress.Read read) begun =
+    let some = had_below read in
+    let all = all_within read begun.under_way.limit in
+    omega (arith, some, all)
+had_within _ (progress.Read read) begun = absurd begun

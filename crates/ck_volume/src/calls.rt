@@ -26,6 +26,8 @@ ghost use Rattle.ck_volume.specs.Causes.{acknowledges};
 ghost use Rattle.ck_volume.specs.CommitAnswer.{broken_after, committed_after, spoilt_after};
 ghost use Rattle.ck_volume.specs.Event.{newest, Follows, HasCause, IsEntryOf};
 ghost use Rattle.ck_volume.specs.Present.{present};
+ghost use Rattle.ck_volume.specs.Progress.{had_of, FitsHistory, IsBegunFor, IsLastOf};
+ghost use Rattle.ck_volume.specs.Turn.{GoesOn, OnAnswered, OnMore};
 ghost use Rattle.ck_volume.specs.Volume.{disk_of, origin_of, table_of, mounts_of, history_of, room_of, length_of, committed_of, spoilt_of, told_of, broken_of, world_of, past_on, KeepsAllButRoom, KeepsLog, IsKept, IsBegun, IsOpened, IsFormatted};
 
 use crate::background::{Background, drain, step};
@@ -201,7 +203,7 @@ impl<D: Disk> Volume<D> {
         ensures told { OnAnswered result (told_of self.new ≡ told_of self.old ++ call.now ∷ []) }
         ensures kept { IsKept D.means self.new }
     {
-        let turn = happen(
+        match happen(
             &mut self.engine,
             &mut self.log,
             alloc,
@@ -210,14 +212,16 @@ impl<D: Disk> Volume<D> {
             at,
             call,
             progress,
-        );
-        if turn == Turn::Answered {
-            self.told = self.told.more(call);
-            let synced = self.log.acknowledged(call);
-            let answered = self.log.history.length();
-            note_sync(&mut self.committed, answered, synced);
+        ) {
+            Turn::More => Turn::More,
+            Turn::Answered => {
+                self.told = self.told.more(call);
+                let synced = self.log.acknowledged(call);
+                let answered = self.log.history.length();
+                note_sync(&mut self.committed, answered, synced);
+                Turn::Answered
+            }
         }
-        turn
     }
 
     /// Takes one step of what is left to do in the background: today, the removal of checkpoints that

@@ -8,8 +8,8 @@ use Rattle.ck_model.specs.declared.reply.Reply.{Reply}
 use Rattle.ck_engine.specs.ReadAnswer.{bytes_in}
 use Rattle.ck_volume.proofs.event.read.Goals as goal
 
-last-had : {m n at : ℕ} → m ≡ n → (reply : Reply) → IfSome (bytes_in reply) (λ bytes. m + 1 ≡ turns_of at (length bytes)) → IfSome (bytes_in reply) (λ bytes. n + 1 ≡ turns_of at (length bytes))
-last-had {m} {n} {at} is reply h = subst (λ k. IfSome (bytes_in reply) (λ bytes. k + 1 ≡ turns_of at (length bytes))) is h
+last-had : {m n : ℕ} (at : ℕ) → m ≡ n → (reply : Reply) → IfSome (bytes_in reply) (λ bytes. m + 1 ≡ turns_of at (length bytes)) → IfSome (bytes_in reply) (λ bytes. n + 1 ≡ turns_of at (length bytes))
+last-had at is reply h = subst (λ k. IfSome (bytes_in reply) (λ bytes. k + 1 ≡ turns_of at (length bytes))) is h
 
 pub cread-requires-clause-on_way : goal.cread-requires-clause-on_way
 cread-requires-clause-on_way g c = subst (λ o. IfSome o (IsOnWay c.args.at)) (sym c.into_read.ensures) (begun_is c.args.letter c.args.path.now c.args.at c.args.len c.args.progress c.requires.begun)
@@ -37,7 +37,7 @@ returns-in-Ok-clause-cause g c = on_reply c.in-Ok.turn _ _ (no_cause (g.D.Disk.m
 pub returns-in-Ok-clause-last : goal.returns-in-Ok-clause-last
 returns-in-Ok-clause-last g c =
     let had = ap had_by c.into_read.ensures ∙ had_is c.args.progress in
-    on_reply c.in-Ok.turn _ _ (λ reply h. last_is c.args.letter c.args.path.now c.args.at c.args.len _ reply (last-had had reply h)) c.in-Ok.ensures.last
+    on_reply c.in-Ok.turn _ _ (λ reply h. last_is c.args.letter c.args.path.now c.args.at c.args.len _ reply (last-had c.args.at had reply h)) c.in-Ok.ensures.last
 
 pub returns-in-Ok-clause-begun : goal.returns-in-Ok-clause-begun
 returns-in-Ok-clause-begun g c = on_read c.in-Ok.turn _ _ (λ read h. h.0) c.in-Ok.ensures.more
