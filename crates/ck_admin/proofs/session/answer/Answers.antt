@@ -9,20 +9,20 @@ use Rattle.ck_volume.proofs.FitsLaws.{had_within}
 use Rattle.ck_admin.proofs.session.answer.Goals as goal
 
 pub event-requires-clause-room : goal.event-requires-clause-room
-event-requires-clause-room g c = subst (λ (n : ℕ). 0 < n) (sym c.loop.invariant.log.room) c.requires.room
+event-requires-clause-room g c = subst (λ (n : ℕ). 0 < n) (sym c.loop-progress.invariant.log.room) c.requires.room
 
 pub event-requires-clause-number : goal.event-requires-clause-number
 event-requires-clause-number g c =
     let line = c.args.line.now in
-    subst (λ (es : List Entry). line.seq ≡ length (numbers_of es line.actor) + 1) (sym c.loop.invariant.log.history) c.requires.number
+    subst (λ (es : List Entry). line.seq ≡ length (numbers_of es line.actor) + 1) (sym c.loop-progress.invariant.log.history) c.requires.number
 
 pub event-requires-clause-unspoilt : goal.event-requires-clause-unspoilt
-event-requires-clause-unspoilt g c = c.loop.invariant.log.spoilt ∙ c.requires.unspoilt
+event-requires-clause-unspoilt g c = c.loop-progress.invariant.log.spoilt ∙ c.requires.unspoilt
 
-pub loop-preserved : goal.loop-preserved
-loop-preserved g c =
+pub loop-progress-preserved : goal.loop-progress-preserved
+loop-progress-preserved g c =
     let more = c.in-More.ensures.more in
-    let log = c.loop.invariant.log in
+    let log = c.loop-progress.invariant.log in
     record {
       log = record {
         history = more.log.history ∙ log.history;
@@ -37,31 +37,31 @@ loop-preserved g c =
       fits = more.fits;
     }
 
-pub loop-decreases : goal.loop-decreases
-loop-decreases g c =
+pub loop-progress-smaller : goal.loop-progress-smaller
+loop-progress-smaller g c =
     let more = c.in-More.ensures.more in
-    let within = had_within c.args.line.now.call c.loop.progress c.loop.invariant.begun in
+    let within = had_within c.args.line.now.call c.loop-progress.progress c.loop-progress.invariant.begun in
     let turns = more.turns in
     omega (arith, within, turns)
 
-pub returns-clause-added : goal.returns-clause-added
-returns-clause-added g c =
+pub returns-in-Answered-clause-added : goal.returns-in-Answered-clause-added
+returns-in-Answered-clause-added g c =
     let after = history_of c.event.new.self in
-    subst (λ (es : List Entry). after ≡ es ++ newest after ∷ []) c.loop.invariant.log.history c.in-Answered.ensures.added
+    subst (λ (es : List Entry). after ≡ es ++ newest after ∷ []) c.loop-progress.invariant.log.history c.in-Answered.ensures.added
 
-pub returns-clause-room : goal.returns-clause-room
-returns-clause-room g c = c.in-Answered.ensures.room ∙ c.loop.invariant.log.room
+pub returns-in-Answered-clause-room : goal.returns-in-Answered-clause-room
+returns-in-Answered-clause-room g c = c.in-Answered.ensures.room ∙ c.loop-progress.invariant.log.room
 
-pub returns-clause-committed : goal.returns-clause-committed
-returns-clause-committed g c =
+pub returns-in-Answered-clause-committed : goal.returns-in-Answered-clause-committed
+returns-in-Answered-clause-committed g c =
     let after = c.event.new.self in
-    c.in-Answered.ensures.committed ∙ ap (λ (n : ℕ). if acknowledges c.args.line.now.call (newest (history_of after)).reply then length_of after else n) c.loop.invariant.log.committed
+    c.in-Answered.ensures.committed ∙ ap (λ (n : ℕ). if acknowledges c.args.line.now.call (newest (history_of after)).reply then length_of after else n) c.loop-progress.invariant.log.committed
 
-pub returns-clause-told : goal.returns-clause-told
-returns-clause-told g c = c.in-Answered.ensures.told ∙ ap (λ (told : List Call). told ++ c.args.line.now.call ∷ []) c.loop.invariant.log.told
+pub returns-in-Answered-clause-told : goal.returns-in-Answered-clause-told
+returns-in-Answered-clause-told g c = c.in-Answered.ensures.told ∙ ap (λ (told : List Call). told ++ c.args.line.now.call ∷ []) c.loop-progress.invariant.log.told
 
-pub returns-clause-origin : goal.returns-clause-origin
-returns-clause-origin g c = c.event.ensures.origin ∙ c.loop.invariant.log.origin
+pub returns-in-Answered-clause-origin : goal.returns-in-Answered-clause-origin
+returns-in-Answered-clause-origin g c = c.event.ensures.origin ∙ c.loop-progress.invariant.log.origin
 
-pub returns-clause-spoilt : goal.returns-clause-spoilt
-returns-clause-spoilt g c = c.event.ensures.spoilt ∙ c.loop.invariant.log.spoilt
+pub returns-in-Answered-clause-spoilt : goal.returns-in-Answered-clause-spoilt
+returns-in-Answered-clause-spoilt g c = c.event.ensures.spoilt ∙ c.loop-progress.invariant.log.spoilt

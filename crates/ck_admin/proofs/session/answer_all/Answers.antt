@@ -41,7 +41,7 @@ loop-line-preserved g c =
     let event = c.answer.ensures in
     let inv = c.loop-line.invariant in
     let history = history_of c.loop-line.volume in
-    let after = history_of c.answer.new.self in
+    let after = history_of c.answer.new.volume in
     let entry = newest after in
     let added : after ≡ history ++ entry ∷ [] = event.added in
     let numbered : IsNumbered lines = subst IsNumbered (sym c.items-lines.ensures) c.args.script.now.numbered in
@@ -54,7 +54,7 @@ loop-line-preserved g c =
       so_far = subst (λ (es : List Entry). IsSoFar lines clock (at + 1) es) (sym added) (subst (λ at. IsSoFar lines clock at (history ++ entry ∷ [])) more so_far);
       answered = subst (λ (told : List Call). AreAnswered calls told after) (sym event.told)
           (subst (λ (es : List Entry). AreAnswered calls (told_of c.loop-line.volume ++ line.call ∷ []) es) (sym added) (answered-more calls (told_of c.loop-line.volume) line.call history entry inv.answered called));
-      synced = synced-step calls history after entry line.call (committed_of c.loop-line.volume) (committed_of c.answer.new.self) called added (ap (λ (es : List Entry). length es) added ∙ longer history entry) event.committed inv.synced;
+      synced = synced-step calls history after entry line.call (committed_of c.loop-line.volume) (committed_of c.answer.new.volume) called added (ap (λ (es : List Entry). length es) added ∙ longer history entry) event.committed inv.synced;
       origin = event.origin ∙ inv.origin;
       unspoilt = event.spoilt ∙ inv.unspoilt;
       clock = c.now.ensures.unchanged ∙ inv.clock;
