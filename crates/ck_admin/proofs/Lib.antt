@@ -1,3 +1,4 @@
+pub mod PlayLemmas
 pub mod CrashLemmas
 pub mod PlayedLemmas
 pub mod BuiltLemmas

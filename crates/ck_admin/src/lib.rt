@@ -10,3 +10,4 @@ mod session;
 mod volume;
 
 pub use command::{Ended, top};
+pub use session::play;
