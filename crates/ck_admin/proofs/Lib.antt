@@ -1,4 +1,3 @@
-pub mod PlayLemmas
 pub mod CrashLemmas
 pub mod PlayedLemmas
 pub mod BuiltLemmas

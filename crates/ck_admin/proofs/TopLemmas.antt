@@ -75,17 +75,18 @@ read_or_refused source read line script refused =
 module _ (source left : SourceMeaning) (clock : ClockMeaning) (old new : SinkMeaning) (before mid after : Meaning) (law : Lawful before) (read : Parsed) (w : World) (history : List Entry) (committed : CommitAnswer)
     (script : IsTrue source.tells → read_script source.left ≡ Ok read)
     (bare : w ≡ unmounted w) (recovers : IsTrue before.tells → Recovers before.shows w) (opened : LeavesOnly before mid before.may_leave)
-    (played : IsPlayed (calls_in read.calls) clock w mid after history committed) where
+    (played : IsPlayed read clock w mid after history committed) where
   abbrev calls : CallsBy
   calls = call_at (calls_in read.calls)
 
   told_mid : IsTrue before.tells → IsTrue mid.tells
   told_mid told = subst IsTrue (sym opened.tells) told
 
-  from_before : IsPlay (calls_in read.calls) clock w before after history
+  from_before : IsPlay read clock w before after history
   from_before = record {
     legal = λ told. played.play.legal (told_mid told);
     of_script = played.play.of_script;
+    follows = λ told. played.play.follows (told_mid told);
     moments = played.play.moments;
     causes = causes_earlier before mid after history opened.reads opened.writes played.play.causes;
     breaks = played.play.breaks;
@@ -178,13 +179,13 @@ module _ (source left : SourceMeaning) (clock : ClockMeaning) (old new : SinkMea
 -- a play on a device that was opened
 pub ends_opened : (source left : SourceMeaning) (clock : ClockMeaning) (old new : SinkMeaning) (before mid after : Meaning) → Lawful before → Lawful mid → (read : Parsed) (w : World) (status : Status)
     → (IsTrue source.tells → read_script source.left ≡ Ok read) → w ≡ unmounted w → (IsTrue before.tells → Recovers before.shows w) → LeavesOnly before mid before.may_leave
-    → EndsOn (calls_in read.calls) clock w mid after old new status → EndsPlay source left clock old new before after status
+    → EndsOn read clock w mid after old new status → EndsPlay source left clock old new before after status
 ends_opened source left clock old new before mid after law mid_law read w status script bare recovers opened ends =
     ⊎_elim
     (λ (un : IsUnplayed mid after old new status).
     subst (EndsPlay source left clock old new before after) (sym un.status_is)
     (inl (un.nothing, leaves_on before mid after mid_law opened un.left)))
-    (λ (p : IsPrinted (calls_in read.calls) clock w mid after old new status).
+    (λ (p : IsPrinted read clock w mid after old new status).
     subst (EndsPlay source left clock old new before after) (sym p.status_is)
     (ends_play source left clock old new before mid after law read w p.history p.committed script bare recovers opened p.played p.committed refl p.printed p.whole p.fault))
     ends

@@ -2,11 +2,12 @@
 use Rattle.std.specs.Prelude.{◌≡◌, ◌⊎◌, ℕ, Bool, true, false, List, IsTrue}
 use Rattle.ck_disk.specs.Disk.{Image, Meaning, IsSynced, LeavesOnly, Rose}
 use Rattle.ck_io.specs.Clock.{ClockMeaning}
-use Rattle.ck_model.specs.declared.call.Call.{Call}
 use Rattle.ck_model.specs.declared.entry.Entry.{Entry}
 use Rattle.ck_model.specs.Streams.{Texts}
 use Rattle.ck_model.specs.World.{World, unmounted}
 use Rattle.ck_model.specs.History.{CallsBy, call_at, state}
+use Rattle.ck_script.specs.Numbered.{calls_in}
+use Rattle.ck_script.specs.Parsed.{Parsed}
 use Rattle.ck_volume.specs.declared.commit.CommitAnswer.{CommitAnswer}
 use Rattle.ck_volume.specs.declared.commit.CommitAnswer.TheVariants as answer
 use Rattle.ck_engine.specs.Exact.{IsExact}
@@ -39,10 +40,10 @@ found_broken (answer.Broken number) = true
 found_broken answer.NoMemory = false
 
 -- a play of a script from an opened volume's world, to the end of the commit behind it
-pub record IsPlayed (script : List (ℕ × Call)) (clock : ClockMeaning) (w : World) (old new : Meaning) (history : List Entry) (committed : CommitAnswer) : Type 0 where
+pub record IsPlayed (script : Parsed) (clock : ClockMeaning) (w : World) (old new : Meaning) (history : List Entry) (committed : CommitAnswer) : Type 0 where
   pub play : IsPlay script clock w old new history
   pub later : IsLater old new
-  pub cuts : ∥ LeavesSince (call_at script) w old new history ∥₁
+  pub cuts : ∥ LeavesSince (call_at (calls_in script.calls)) w old new history ∥₁
   pub lost : lost_a_write history ≡ found_broken committed
-  pub exact : committed ≡ answer.Done → IsTrue old.tells → (texts : Texts) (image : Image) → new.may_leave image → IsExact (unmounted (state texts (call_at script) w history)) image
+  pub exact : committed ≡ answer.Done → IsTrue old.tells → (texts : Texts) (image : Image) → new.may_leave image → IsExact (unmounted (state texts (call_at (calls_in script.calls)) w history)) image
   pub cause : committed ≡ answer.WriteFault → Rose old.write_faults new.write_faults

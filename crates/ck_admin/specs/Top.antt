@@ -36,7 +36,7 @@ pub record PrintsPlay (source : SourceMeaning) (clock : ClockMeaning) (before af
   pub history : List Entry
   pub script : IsTrue source.tells → read_script source.left ≡ Ok read
   pub recovers : IsTrue before.tells → Recovers before.shows world
-  pub play : IsPlay (calls_in read.calls) clock world before after history
+  pub play : IsPlay read clock world before after history
   pub leaves : ∥ LeavesCuts (call_at (calls_in read.calls)) world before after history ∥₁
   pub ends : E (call_at (calls_in read.calls)) world history
   pub printed : P (call_at (calls_in read.calls)) history

@@ -5,14 +5,13 @@ ghost use Rattle.ck_io.specs.Bytes.{GainsPrefix};
 ghost use Rattle.ck_io.specs.Faults.{Rose};
 ghost use Rattle.ck_log.specs.Layout.{size_of};
 ghost use Rattle.ck_report.specs.Status.{status_line};
-ghost use Rattle.ck_script.specs.Numbered.{calls_in};
 ghost use Rattle.ck_files.specs.Built.{IsBuilt};
 ghost use Rattle.ck_volume.specs.Volume.{disk_of, origin_of, told_of, spoilt_of, world_of, IsBegun};
 ghost use Rattle.ck_engine.specs.Recovery.{Recovers};
 ghost use Rattle.ck_words.specs.declared.command.Command.TheVariants.{Play, Mkfs};
 ghost use Rattle.ck_words.specs.Command.{command_of};
 ghost use Rattle.ck_admin.specs.Ends.{EndsOn};
-ghost use Rattle.ck_admin.specs.Play.{IsLater};
+ghost use Rattle.ck_admin.specs.Play.{parsed, IsLater};
 ghost use Rattle.ck_admin.specs.Statuses.{play_status, IsReadFault, IsRefusedAt};
 ghost use Rattle.ck_admin.specs.Top.{is_usage, is_play, leaves_device, IsUntouched, EndsPlay, EndsMkfs};
 
@@ -66,7 +65,7 @@ fn play_volume<K: Sink, D: Disk, C: Clock>(
     requires unspoilt { spoilt_of volume ≡ None }
     requires built { AllByRecursion (λ line. IsBuilt line.call) script.now.calls }
     requires few { length script.now.calls ≤ 65536 }
-    ensures ends { EndsOn (calls_in script.now.calls) (C.means clock.old) (world_of (D.means (disk_of volume)).shows volume) (D.means (disk_of volume)) (D.means result.disk) (K.means out.old) (K.means out.new) result.status }
+    ensures ends { EndsOn (parsed script.now) (C.means clock.old) (world_of (D.means (disk_of volume)).shows volume) (D.means (disk_of volume)) (D.means result.disk) (K.means out.old) (K.means out.new) result.status }
     ensures begun { leaves_device result.status ≡ false }
     ensures later { IsLater (D.means (disk_of volume)) (D.means result.disk) }
     ensures out_tells { (K.means out.new).tells ≡ (K.means out.old).tells }

@@ -10,4 +10,3 @@ mod session;
 mod volume;
 
 pub use command::{Ended, top};
-pub use session::play;

@@ -1,11 +1,11 @@
 use Rattle.std.proofs.Common.{◌≡◌, List, inl, inr, refl, sym, ◌∙◌, subst}
 use Rattle.ck_disk.specs.Disk.{Meaning, LeavesOnly}
 use Rattle.ck_model.specs.declared.entry.Entry.{Entry}
-use Rattle.ck_script.specs.Numbered.{calls_in}
 use Rattle.ck_volume.specs.Volume.{disk_of, world_of}
 use Rattle.ck_disk.proofs.MomentLaws.{leaves_start}
 use Rattle.ck_admin.specs.Crash.{IsPlayed}
 use Rattle.ck_admin.specs.Ends.{EndsOn}
+use Rattle.ck_admin.specs.Play.{parsed}
 use Rattle.ck_admin.proofs.command.play_volume.Goals as goal
 
 pub returns-clause-ends : goal.returns-clause-ends
@@ -13,7 +13,7 @@ returns-clause-ends g c =
     let old = g.K.Sink.means c.args.out.now in
     let new = g.K.Sink.means c.print-printed.new.out in
     let clock = g.C.Clock.means c.args.clock.now in
-    let script = calls_in c.args.script.now.calls in
+    let script = parsed c.args.script.now in
     let mid : Meaning = g.D.Disk.means (disk_of c.args.volume) in
     let w = world_of mid.shows c.args.volume in
     let played = c.play_and_commit-played.new.volume in

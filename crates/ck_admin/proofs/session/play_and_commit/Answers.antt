@@ -6,7 +6,10 @@ use Rattle.ck_model.specs.declared.call.Call.{Call}
 use Rattle.ck_model.specs.declared.entry.Entry.{Entry}
 use Rattle.ck_model.specs.History.{CallsBy, IsOfScript, call_at}
 use Rattle.ck_model.specs.World.{World, unmounted}
+use Rattle.ck_model.specs.Streams.{Texts}
 use Rattle.ck_script.specs.Numbered.{calls_in}
+use Rattle.ck_script.specs.Parsed.{Parsed}
+use Rattle.ck_actor.specs.Turns.{Follows}
 use Rattle.ck_volume.specs.declared.commit.CommitAnswer.{CommitAnswer}
 use Rattle.ck_volume.specs.declared.commit.CommitAnswer.TheVariants as answer
 use Rattle.ck_volume.specs.Causes.{HasCauses}
@@ -21,7 +24,7 @@ use Rattle.ck_volume.proofs.CutsLaws.{stands-now}
 use Rattle.ck_volume.proofs.StandsLaws.{by-entry}
 use Rattle.ck_volume.proofs.StoodLaws.{stood, breaks-known}
 use Rattle.ck_admin.specs.Crash.{synced_count, LeavesSince, IsPlayed}
-use Rattle.ck_admin.specs.Play.{IsPlay}
+use Rattle.ck_admin.specs.Play.{parsed, IsPlay}
 use Rattle.ck_admin.proofs.CrashLemmas.{committed_no_less, cuts_since}
 use Rattle.ck_admin.proofs.PlayedLemmas.{played}
 use Rattle.ck_admin.proofs.session.play_and_commit.Goals as goal
@@ -37,8 +40,8 @@ unbroken_done (Some n) result refused done = absurd (apart (sym (refused n refl)
 pub returns-clause-played : goal.returns-clause-played
 returns-clause-played g c =
     let means = g.D.Disk.means in
-    let script = calls_in c.args.script.now.calls in
-    let calls : CallsBy = call_at script in
+    let script : Parsed = parsed c.args.script.now in
+    let calls : CallsBy = call_at (calls_in script.calls) in
     let clock = g.C.Clock.means c.args.clock.now in
     let first = c.args.volume.now in
     let before = c.play.new.volume in
@@ -66,7 +69,9 @@ returns-clause-played g c =
     let all : Runs old new = subst (λ (d : g.row.D.Denot). Runs (means d) new) origin after.kept.runs in
     let play_of : IsPlay script clock w old new (history_of after) = record {
       legal = λ told texts. (stands told w (c.requires.recovers told) texts calls answered).0;
-      of_script = subst (λ (es : List Entry). IsOfScript script es) (sym commit.history) play.of_script;
+      of_script = subst (λ (es : List Entry). IsOfScript (calls_in script.calls) es) (sym commit.history) play.of_script;
+      follows = λ told texts. subst (λ (es : List Entry). Follows texts script w es) (sym commit.history)
+          (subst (λ (d : g.row.D.Denot). IsTrue (means d).tells → (v : World) → Recovers (means d).shows v → (texts : Texts) → Follows texts script v (history_of before)) c.requires.origin play.follows told w (c.requires.recovers told) texts);
       moments = subst (λ (es : List Entry). IsTrue clock.tells → AllByRecursion (λ (entry : Entry). entry.at ≡ clock.moment) es) (sym commit.history) play.moments;
       causes = subst (λ (d : g.row.D.Denot). HasCauses (means d) new (history_of after)) origin after.kept.causes;
       breaks = breaks-known (history_of after) after.kept.replies;
