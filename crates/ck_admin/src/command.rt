@@ -164,10 +164,9 @@ pub fn top<S: Source, K: Sink, E: Sink, D: Disk, C: Clock>(
     ensures untouched { OnFalse (is_play (command_of (list_map string_bytes words.now))) (IsUntouched (S.means source.old) (S.means source.new) (K.means out.old) (K.means out.new)) }
 
     // What a play prints is the transcript of one legal history that holds each actor's calls once and in its order, and
-    // follows the script's turns. Its
-    // numbers, bytes and names are such that the transcript tells the history (`ck_report::texts_tell`). Each
-    // image that a crash may leave recovers a prefix of it, at the end one that holds every acknowledged sync, and after
-    // the status Done the whole. Each fault in it, and each other ending, has its cause.
+    // follows the script's turns. Its numbers, bytes and names are such that the transcript tells the history
+    // (`ck_report::texts_tell`). Each image that a crash may leave recovers a prefix of it, at the end one that holds every
+    // acknowledged sync, and after the status Done the whole. Each fault in it, and each other ending, has its cause.
     ensures play { command_of (list_map string_bytes words.now) ≡ Some Play
         → EndsPlay (S.means source.old) (S.means source.new) (C.means clock.old) (K.means out.old) (K.means out.new) (D.means disk) (D.means result.disk) result.status }
 
