@@ -54,7 +54,7 @@ impl Actor {
     {
         match self.progress {
             Progress::Fresh => self.place.next_number(script.calls.items()),
-            Progress::Read(_) => None,
+            Progress::Read(_) | Progress::Strip(_) => None,
         }
     }
 
@@ -77,7 +77,7 @@ impl Actor {
     {
         match self.progress {
             Progress::Fresh => self.place.seek(lines),
-            Progress::Read(_) => {}
+            Progress::Read(_) | Progress::Strip(_) => {}
         }
     }
 
@@ -92,7 +92,7 @@ impl Actor {
     {
         match self.progress {
             Progress::Fresh => self.began = clock.now(),
-            Progress::Read(_) => {}
+            Progress::Read(_) | Progress::Strip(_) => {}
         }
     }
 

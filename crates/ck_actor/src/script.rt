@@ -1,11 +1,11 @@
 ghost use Rattle.std.specs.Prelude.{◌≡◌, ◌≤◌, ◌<◌, ◌+◌, suc, [], None, OnOk, OnErr, IfOk, IsTrue, length, take as list_take};
 ghost use Rattle.std.specs.List.{AllByRecursion};
 ghost use Rattle.ck_model.specs.History.{IsOfScript, call_at};
-ghost use Rattle.ck_model.specs.Placed.{NoneGone};
 ghost use Rattle.ck_model.specs.Streams.{Texts};
 ghost use Rattle.ck_model.specs.World.{World};
 ghost use Rattle.ck_script.specs.Numbered.{calls_in};
 ghost use Rattle.ck_files.specs.Built.{IsBuilt};
+ghost use Rattle.ck_files.specs.Drained.{IsDrained};
 ghost use Rattle.ck_engine.specs.Recovery.{Recovers};
 ghost use Rattle.ck_volume.specs.Told.{AreAnswered};
 ghost use Rattle.ck_volume.specs.TopCuts.{synced_count};
@@ -156,7 +156,7 @@ pub fn play<D: Disk, C: Clock>(
     ensures synced { OnOk result (synced_count (call_at (calls_in script.now.calls)) (history_of volume.new) ≤ committed_of volume.new) }
     ensures origin { origin_of volume.new ≡ origin_of volume.old }
     ensures refused { OnErr result (disk_of volume.new ≡ disk_of volume.old) }
-    ensures drained { OnOk result (broken_of volume.new ≡ None → NoneGone (table_of volume.new)) }
+    ensures drained { OnOk result (broken_of volume.new ≡ None → IsDrained (table_of volume.new)) }
     ensures none { OnErr result (history_of volume.new ≡ []) }
     ensures clock { C.means clock.new ≡ C.means clock.old }
 

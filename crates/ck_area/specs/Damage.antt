@@ -161,8 +161,8 @@ damage blocks records area = damaged_from blocks records area 0 (length area)
 -- ---- forms that this version doesn't read
 
 abbrev pub is_unbuilt_form : Fileset → Bool
-is_unbuilt_form fileset = not (keeps_files fileset.kind) || fileset.removable
+is_unbuilt_form fileset = fileset.removable
 
--- a checkpoint stands there that keeps no data or is removable
+-- a removable checkpoint stands there
 abbrev pub is_unbuilt : Area → Bool
 is_unbuilt area = list_any (λ e. is_unbuilt_form e.1) (filesets_in area)

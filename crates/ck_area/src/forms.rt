@@ -3,13 +3,13 @@ ghost use Rattle.std.specs.List.{list_any};
 ghost use Rattle.ck_area.specs.Area.{filesets_by};
 ghost use Rattle.ck_area.specs.Damage.{is_unbuilt_form, is_unbuilt};
 
-use ck_model::{Fileset, Kind};
+use ck_model::Fileset;
 use ck_record::Record;
 
 fn is_unbuilt_form(fileset: &Fileset) -> bool
     ensures { result ≡ is_unbuilt_form fileset.now }
 {
-    matches!(fileset.kind, Kind::Nodata) || fileset.removable
+    fileset.removable
 }
 
 fn has_unbuilt_form(slot: &Option<Record>) -> bool
@@ -21,8 +21,7 @@ fn has_unbuilt_form(slot: &Option<Record>) -> bool
     }
 }
 
-/// Whether a checkpoint stands there that keeps no data or is removable: the forms of a checkpoint
-/// that can't be worked with yet.
+/// Whether a removable checkpoint stands there: the form of a checkpoint that can't be worked with yet.
 pub fn is_unbuilt(area: &[Option<Record>]) -> bool
     ensures { result ≡ is_unbuilt area.now }
 {

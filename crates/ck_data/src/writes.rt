@@ -6,6 +6,8 @@ ghost use Rattle.ck_model.specs.Step.{changing};
 ghost use Rattle.ck_model.specs.World.{Mounts};
 ghost use Rattle.ck_model.specs.TableWorld.{world_on};
 ghost use Rattle.ck_push.specs.Growth.{gains, losses, write_count};
+ghost use Rattle.ck_nodata.specs.declared.item.StripItem.{StripItem};
+ghost use Rattle.ck_nodata.specs.StripItem.{IsStrippedTo};
 ghost use Rattle.ck_tree.specs.Plan.{IsPlan, numbers_after};
 ghost use Rattle.ck_model.specs.FileCalls.{IsChanging, changed_by};
 ghost use Rattle.ck_data.specs.declared.fault.Fault.TheVariants.{ReadFault, WriteFault};
@@ -67,6 +69,8 @@ pub fn apply_planned<M: Meta, D: Disk>(
     ensures err { IfErr result (λ fault. ((fault ≡ ReadFault) × IsAllocated (M.table meta.old) blocks.new) ⊎ (fault ≡ WriteFault)) }
     ensures device { OnlyStores area.base blocks.old (D.means disk.old) (D.means disk.new) }
     ensures fault { IfErr result (IsWritingFault (D.means disk.old) (D.means disk.new)) }
+    // No data block is left to strip where none was.
+    ensures stripped { (last : StripItem) → IsStrippedTo (M.table meta.old) last → IsStrippedTo (M.table meta.new) last }
 {
     store_all(meta, blocks, disk, area, call, changes)?;
     let counters = meta.counters();

@@ -14,6 +14,7 @@ use Rattle.ck_data.specs.declared.fault.Fault.TheVariants as fault
 use Rattle.ck_engine.specs.declared.engine.Engine.{Engine}
 use Rattle.ck_engine.specs.Committed.{Keeps, OpensToEither}
 use Rattle.ck_data.specs.Device.{store_on}
+use Rattle.ck_nodata.specs.StripItem.{IsStrippedTo}
 use Rattle.ck_files.specs.Allocated.{KeepsBusy}
 use Rattle.ck_files.specs.Files.{AreFiles}
 use Rattle.ck_files.specs.Reports.{limits_of}
@@ -53,6 +54,7 @@ pub record IsWhole {D : Type 0} (m : Meaning) (engine : Engine D) : Type 0 where
   pub records : (layout_of engine).records ≡ (table_of engine).records
   pub size : size_of (layout_of engine).blocks (layout_of engine).records ≤ m.size
   pub settled : Settled (layout_of engine) m
+  pub stripped : IsStrippedTo (table_of engine) engine.stripped
 
 -- what a crash leaves now: that world and no other
 abbrev pub KeepsWorld : {D : Type 0} → Meaning → Engine D → World → Type 0

@@ -11,6 +11,8 @@ ghost use Rattle.ck_model.specs.World.{World, unmounted};
 ghost use Rattle.ck_files.specs.Allocated.{KeepsBusy};
 ghost use Rattle.ck_files.specs.Built.{is_cread, IsBuilt, IsQuiet};
 ghost use Rattle.ck_files.specs.Files.{AreFiles};
+ghost use Rattle.ck_nodata.specs.StripItem.{IsStrippedTo};
+ghost use Rattle.ck_files.specs.Conversion.{Converts};
 ghost use Rattle.ck_files.specs.Freeze.{Freezes};
 ghost use Rattle.ck_files.specs.Removal.{Removes};
 ghost use Rattle.ck_push.specs.Growth.{gains, losses, write_count};
@@ -25,7 +27,8 @@ use crate::engine::Engine;
 use ck_data::{Fault, apply_planned, read};
 use ck_disk::Disk;
 use ck_files::{
-    Planned, ckpts, cls, create, drain, info, ls, mount, plan_changes, remove, stat, umount, used,
+    Planned, ckpts, cls, convert, create, drain, info, ls, mount, plan_changes, remove, stat,
+    umount, used,
 };
 use ck_model::{Call, Change, NoMemory, Path, Reply};
 use std::alloc::Global;
@@ -83,7 +86,14 @@ impl<D: Disk> Engine<D> {
         ensures fault { IfErr result (IsWritingFault (D.means (disk_of self.old)) (D.means (disk_of self.new))) }
     {
         let limits = self.limits();
-        match plan_changes(alloc, &mut self.slots, &mut self.blocks, limits, call)? {
+        match plan_changes(
+            alloc,
+            &mut self.slots,
+            &mut self.blocks,
+            &mut self.stripped,
+            limits,
+            call,
+        )? {
             Planned::Answered(reply) => Ok(reply),
             Planned::Changes(mut changes, writes) => {
                 self.change_planned(alloc, call, &mut changes, writes)
@@ -136,6 +146,8 @@ impl<D: Disk> Engine<D> {
         ensures ordinary { IfOk result (λ reply. is_fault reply ≡ false) }
         ensures freezes { IfOk result (λ reply. Freezes call.now moment reply (table_of self.old) (table_of self.new)) }
         ensures removes { IfOk result (λ reply. Removes call.now reply (table_of self.old) (table_of self.new)) }
+        ensures converts { IfOk result (λ reply. Converts call.now reply (table_of self.old) (table_of self.new)) }
+        ensures stripped { IsStrippedTo (table_of self.new) self.new.stripped }
         ensures err_table { OnErr result (table_of self.new ≡ table_of self.old) }
         ensures err_mounts { OnErr result (mounts_of self.new ≡ mounts_of self.old) }
     {
@@ -146,19 +158,22 @@ impl<D: Disk> Engine<D> {
             Call::Clist(letter, path) => {
                 cls(alloc, &self.slots, &self.mounts, actor, *letter, path)
             }
-            Call::Create(name, _, _) => Ok(create(
+            Call::Create(name, nodata, _) => Ok(create(
                 &mut self.slots,
                 &mut self.blocks,
+                &mut self.stripped,
                 limits,
                 name,
+                *nodata,
                 moment,
             )),
-            Call::Remove(name) => Ok(remove(&mut self.slots, name)),
+            Call::Remove(name) => Ok(remove(&mut self.slots, &mut self.stripped, name)),
+            Call::Nodata(name, _) => Ok(convert(&mut self.slots, &mut self.stripped, name)),
             Call::Mount(letter, name) => mount(&self.slots, &mut self.mounts, actor, *letter, name),
             Call::Umount(letter) => Ok(umount(&mut self.mounts, actor, *letter)),
             Call::Ckpts => ckpts(alloc, &self.slots),
             Call::Info => {
-                drain(&mut self.slots, &mut self.blocks);
+                drain(&mut self.slots, &mut self.blocks, &mut self.stripped);
                 let used = used(&self.slots, &self.blocks, limits);
                 Ok(info(&self.slots, limits, used))
             }
@@ -178,6 +193,7 @@ impl<D: Disk> Engine<D> {
         ensures ordinary { IfOk result (λ reply. is_fault reply ≡ false) }
         ensures freezes { IfOk result (λ reply. Freezes call.now moment reply (table_of self.old) (table_of self.new)) }
         ensures removes { IfOk result (λ reply. Removes call.now reply (table_of self.old) (table_of self.new)) }
+        ensures converts { IfOk result (λ reply. Converts call.now reply (table_of self.old) (table_of self.new)) }
         ensures err { OnErr result (world_of (D.means (disk_of self.new)).shows self.new ≡ world_of (D.means (disk_of self.old)).shows self.old) }
         ensures fault { IfErr result (λ fault. fault ≡ no_memory) }
     {
@@ -207,6 +223,7 @@ impl<D: Disk> Engine<D> {
         ensures ordinary { IfOk result (λ reply. is_fault reply ≡ false) }
         ensures freezes { IfOk result (λ reply. Freezes call.now moment reply (table_of self.old) (table_of self.new)) }
         ensures removes { IfOk result (λ reply. Removes call.now reply (table_of self.old) (table_of self.new)) }
+        ensures converts { IfOk result (λ reply. Converts call.now reply (table_of self.old) (table_of self.new)) }
         ensures err { OnErr result (IsTrue (D.means (disk_of self.old)).tells → world_of (D.means (disk_of self.new)).shows self.new ≡ world_of (D.means (disk_of self.old)).shows self.old) }
         ensures fault { IfErr result (IsWritingFault (D.means (disk_of self.old)) (D.means (disk_of self.new))) }
 

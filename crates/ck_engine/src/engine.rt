@@ -2,9 +2,9 @@ ghost use Rattle.std.specs.Prelude.{◌≡◌, ◌≢◌, ◌+◌, ◌≤◌, Is
 ghost use Rattle.std.specs.FinSet as set;
 ghost use Rattle.ck_disk.specs.Disk.{Image};
 ghost use Rattle.ck_alloc.specs.Blocks.{free_count};
-ghost use Rattle.ck_model.specs.Placed.{NoneGone};
 ghost use Rattle.ck_model.specs.World.{World, unmounted};
 ghost use Rattle.ck_model.specs.TableWorld.{extent_count};
+ghost use Rattle.ck_files.specs.Drained.{IsDrained};
 ghost use Rattle.ck_files.specs.Reports.{limits_of};
 ghost use Rattle.ck_data.specs.declared.fault.Fault.TheVariants as fault;
 ghost use Rattle.ck_data.specs.Writes.{IsWritingFault};
@@ -16,6 +16,7 @@ use ck_data::{DataArea, Fault};
 use ck_disk::Disk;
 use ck_log::Region;
 use ck_model::{CHECKPOINT_LIMIT, Limits, Mounts};
+use ck_nodata::StripItem;
 use ck_slots::{CommitFault, Slots};
 use std::alloc::Global;
 
@@ -27,6 +28,8 @@ pub struct Engine<D> {
     /// Where the table is committed.
     pub(crate) region: Region,
     pub(crate) blocks: Blocks,
+    /// Up to where nothing is left to strip of checkpoints that keep no data.
+    pub(crate) stripped: StripItem,
     pub(crate) mounts: Mounts,
     pub(crate) disk: D,
 }
@@ -50,8 +53,8 @@ impl<D: Disk> Engine<D> {
         // Refused memory leaves it as it was: the device isn't called.
         ensures no_memory { IfErr result (λ why. why ≡ no_memory → self.new ≡ self.old) }
 
-        // Afterwards a crash leaves the present world, and nothing beside it where no checkpoint is gone.
-        ensures exact { NoneGone (table_of self.old) → OnOk result (IsTrue (D.means (disk_of self.old)).tells → (w : World) → KeepsWorld (D.means (disk_of self.old)) self.old w
+        // Afterwards a crash leaves the present world, and nothing beside it where nothing is left to remove or to strip.
+        ensures exact { IsDrained (table_of self.old) → OnOk result (IsTrue (D.means (disk_of self.old)).tells → (w : World) → KeepsWorld (D.means (disk_of self.old)) self.old w
             → (image : Image) → (D.means (disk_of self.new)).may_leave image → IsExact (unmounted (world_of (D.means (disk_of self.new)).shows self.new)) image) }
     {
         match self.slots.commit(alloc, &mut self.region, &mut self.disk) {
@@ -79,6 +82,7 @@ impl<D: Disk> Engine<D> {
             slots: _,
             region: _,
             blocks: _,
+            stripped: _,
             mounts: _,
             disk,
         } = self;

@@ -6,6 +6,7 @@ ghost use Rattle.ck_engine.specs.Engine.{disk_of};
 use crate::engine::Engine;
 use crate::open::blocks_in;
 use ck_disk::Disk;
+use ck_files::before_all;
 use ck_log::{FormatLog, Region};
 use ck_model::Mounts;
 use ck_slots::Slots;
@@ -51,6 +52,7 @@ impl<D: Disk> Engine<D> {
             slots,
             region,
             blocks,
+            stripped: before_all(),
             mounts: Mounts::new(alloc),
             disk,
         })

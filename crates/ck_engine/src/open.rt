@@ -12,6 +12,7 @@ ghost use Rattle.ck_engine.specs.Engine.{disk_of};
 use crate::engine::Engine;
 use ck_alloc::Blocks;
 use ck_disk::Disk;
+use ck_files::before_all;
 use ck_log::{OpenLog, Region};
 use ck_model::{Mounts, NoMemory};
 use ck_slots::{OpenSlots, Slots};
@@ -67,6 +68,7 @@ impl<D: Disk> Engine<D> {
             slots,
             region,
             blocks,
+            stripped: before_all(),
             mounts: Mounts::new(alloc),
             disk,
         })

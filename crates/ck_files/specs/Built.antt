@@ -1,11 +1,11 @@
 -- The calls that a volume has today.
 use Rattle.std.specs.Prelude.{◌≡◌, ◌≤◌, ⊤, Bool, true, false}
 use Rattle.ck_model.specs.declared.call.Call.{Call}
-use Rattle.ck_model.specs.declared.call.Call.TheVariants.{Make, Mkdir, Rm, Rmdir, Mv, Write, Fill, Trunc, Read, List as Ls, Stat, Create, Remove, Ckpts, Mount, Umount, Cread, Clist, Info, Sync}
+use Rattle.ck_model.specs.declared.call.Call.TheVariants.{Make, Mkdir, Rm, Rmdir, Mv, Write, Fill, Trunc, Read, List as Ls, Stat, Create, Remove, Nodata, Ckpts, Mount, Umount, Cread, Clist, Info, Sync}
 use Rattle.ck_model.specs.Limits.{file_limit}
 use Rattle.ck_model.specs.Name.{IsCheckpointName}
 
--- all calls but nodata, removable, restore, backup, full and create with flags; places and sizes are within the
+-- all calls but removable, restore, backup, full and create of a removable checkpoint; places and sizes are within the
 -- limit of a file's size
 abbrev pub IsBuilt : Call → Type 0
 IsBuilt (Make path) = ⊤
@@ -19,8 +19,9 @@ IsBuilt (Trunc path size) = size ≤ file_limit
 IsBuilt (Read path place len) = place ≤ file_limit
 IsBuilt (Ls path) = ⊤
 IsBuilt (Stat path) = ⊤
-IsBuilt (Create name nodata removable) = (nodata ≡ false) × (removable ≡ false) × IsCheckpointName name
+IsBuilt (Create name nodata removable) = (removable ≡ false) × IsCheckpointName name
 IsBuilt (Remove name) = ⊤
+IsBuilt (Nodata name synchronous) = ⊤
 IsBuilt Ckpts = ⊤
 IsBuilt (Mount letter name) = ⊤
 IsBuilt (Umount letter) = ⊤
@@ -36,6 +37,7 @@ IsQuiet (Ls path) = ⊤
 IsQuiet (Stat path) = ⊤
 IsQuiet (Create name nodata removable) = ⊤
 IsQuiet (Remove name) = ⊤
+IsQuiet (Nodata name synchronous) = ⊤
 IsQuiet Ckpts = ⊤
 IsQuiet (Mount letter name) = ⊤
 IsQuiet (Umount letter) = ⊤

@@ -2,9 +2,9 @@
 use Rattle.std.specs.Prelude.{◌≡◌, ◌<◌, ℕ, Bool, false, List, Result, Ok, Err, IsSome}
 use Rattle.ck_model.specs.declared.call.Call.{Call}
 use Rattle.ck_model.specs.declared.call.Call.TheVariants.{Create}
-use Rattle.ck_model.specs.declared.checkpoint.Kind.TheVariants.{Keeping}
 use Rattle.ck_model.specs.declared.reply.Reply.{Reply}
 use Rattle.ck_model.specs.declared.reply.Reply.TheVariants as reply
+use Rattle.ck_model.specs.CheckpointCalls.{kind_of}
 use Rattle.ck_model.specs.History.{created_id}
 use Rattle.ck_model.specs.Table.{Table, spare_count}
 use Rattle.ck_table.specs.Added.{new_fileset, with_added}
@@ -22,9 +22,9 @@ abbrev pub refused_or : ℕ → Reply → Result ℕ AddFault → Reply
 refused_or most answer (Ok id) = answer
 refused_or most answer (Err fault) = refusal_of most fault
 
--- Where a record was free, a call that created a checkpoint has added its record under the next id, and raised that id.
--- Nothing else of the table has changed: no entry was copied.
+-- Where a record was free, a call that created a checkpoint has added its record, of the kind that the call asks for, under the next
+-- id, and raised that id. Nothing else of the table has changed: no entry was copied.
 abbrev pub Freezes : Call → ℕ → Reply → Table → Table → Type 0
 Freezes call at reply before after =
     (name : List ℕ) (nodata removable : Bool) → call ≡ Create name nodata removable → IsSome (created_id reply) → 0 < spare_count before
-    → after ≡ with_added before (new_fileset name Keeping false at)
+    → after ≡ with_added before (new_fileset name (kind_of nodata) removable at)

@@ -11,3 +11,5 @@ pub mod Planned
 pub mod Built
 pub mod Worlds
 pub mod Removal
+pub mod Conversion
+pub mod Drained

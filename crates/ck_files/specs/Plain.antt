@@ -1,14 +1,12 @@
 -- The forms of checkpoints that a volume makes today.
-use Rattle.std.specs.Prelude.{◌≡◌, ℕ, true, false, Some}
+use Rattle.std.specs.Prelude.{◌≡◌, ℕ, false, Some}
 use Rattle.std.specs.FinMap as map
 use Rattle.ck_model.specs.declared.checkpoint.Fileset.{Fileset}
-use Rattle.ck_model.specs.World.{keeps_files}
 use Rattle.ck_model.specs.Table.{Table, IsTable, IsSized}
 use Rattle.ck_model.specs.Rules.{IsSound}
 
--- it keeps its files, and isn't removable
+-- it isn't removable
 pub record IsPlainFileset (fileset : Fileset) : Type 0 where
-  pub keeps : keeps_files fileset.kind ≡ true
   pub stays : fileset.removable ≡ false
 
 -- all of a table's are

@@ -8,8 +8,8 @@ use Rattle.ck_model.specs.World.{World}
 use Rattle.ck_model.specs.Step.{Outcome}
 use Rattle.ck_model.specs.Table.{Table, record_count}
 use Rattle.ck_model.specs.TableWorld.{extent_count}
-use Rattle.ck_model.specs.Placed.{NoneGone}
 use Rattle.ck_push.specs.Growth.{gains, losses, write_count}
+use Rattle.ck_files.specs.Drained.{IsDrained}
 
 -- so many records come to so many, which are that many more, or no more
 pub record Grows (before after records : ℕ) : Type 0 where
@@ -30,8 +30,8 @@ lack_of_room t blocks records =
 abbrev pub answered_with : Reply → World → Outcome
 answered_with reply next = record { reply = reply; given = 0; next = next }
 
--- where nothing is left to remove, changes don't fit, for this reason
+-- where nothing is left to remove or to strip, changes don't fit, for this reason
 pub record IsLacking (t : Table) (changes : List Change) (answer : Reply) : Type 0 where
-  pub none : NoneGone t
+  pub drained : IsDrained t
   pub full : has_room t (write_count changes) (gains t changes - losses t changes) ≡ false
   pub reply : answer ≡ lack_of_room t (write_count changes) (gains t changes - losses t changes)

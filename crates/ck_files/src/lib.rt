@@ -3,6 +3,7 @@
 #![tactic(auto)]
 
 mod changes;
+mod conversion;
 mod freeze;
 mod mounts;
 mod names;
@@ -10,12 +11,15 @@ mod planned;
 mod removal;
 mod reports;
 mod room;
+mod strip;
 
 pub use changes::change_all;
+pub use conversion::convert;
 pub use freeze::create;
 pub use mounts::{mount, mounted_at, umount};
 pub use names::{cls, ls, stat};
 pub use planned::{Planned, plan_changes};
-pub use removal::{drain, remove, remove_step};
+pub use removal::{drain, remove, step};
 pub use reports::{ckpts, info};
 pub use room::used;
+pub use strip::{before_all, strip_of};

@@ -3,6 +3,7 @@ ghost use Rattle.ck_tree.specs.declared.fault.TreeFault.TheVariants as fault;
 ghost use Rattle.ck_tree.specs.Faults.{reply_of};
 ghost use Rattle.ck_model.specs.FileCalls.{IsChanging};
 ghost use Rattle.ck_files.specs.declared.planned.Planned.TheVariants.{Answered};
+ghost use Rattle.ck_nodata.specs.StripItem.{IsStrippedTo};
 ghost use Rattle.ck_files.specs.Allocated.{KeepsBusy};
 ghost use Rattle.ck_files.specs.Files.{AreFiles};
 ghost use Rattle.ck_files.specs.Planned.{IsPlanned};
@@ -11,6 +12,7 @@ ghost use Rattle.ck_files.specs.Worlds.{StandAlike};
 use crate::room::make_room;
 use ck_alloc::Blocks;
 use ck_model::{Call, Change, Limits, Meta, NoMemory, Reply};
+use ck_nodata::StripItem;
 use ck_tree::{TreeFault, plan};
 use std::alloc::Global;
 
@@ -34,26 +36,29 @@ fn refused(why: TreeFault) -> Result<Planned, NoMemory>
 }
 
 /// What a call that changes files comes to. Nothing is written; where it doesn't fit at once, what is
-/// gone is removed.
+/// left to remove or to strip goes.
 pub fn plan_changes<M: Meta>(
     alloc: Global,
     meta: &mut M,
     blocks: &mut Blocks,
+    stripped: &mut StripItem,
     limits: Limits,
     call: &Call,
 ) -> Result<Planned, NoMemory>
     requires files { AreFiles limits (M.table meta.old) blocks.old }
     requires changing { IsChanging call.now }
+    requires stripped { IsStrippedTo (M.table meta.old) stripped.old }
     ensures alike { StandAlike (M.table meta.old) (M.table meta.new) }
     ensures files { AreFiles limits (M.table meta.new) blocks.new }
     ensures busy { KeepsBusy blocks.old blocks.new }
     ensures planned { IfOk result (IsPlanned (M.table meta.new) call.now) }
+    ensures stripped { IsStrippedTo (M.table meta.new) stripped.new }
 {
     let changes = match plan(alloc, meta, call) {
         Ok(changes) => changes,
         Err(fault) => return refused(fault),
     };
-    match make_room(meta, blocks, limits, &changes) {
+    match make_room(meta, blocks, stripped, limits, &changes) {
         Ok(writes) => Ok(Planned::Changes(changes, writes)),
         Err(reply) => Ok(Planned::Answered(reply)),
     }

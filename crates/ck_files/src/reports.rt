@@ -1,9 +1,9 @@
 ghost use Rattle.std.specs.Prelude.{◌≡◌, IfOk};
-ghost use Rattle.ck_model.specs.Placed.{NoneGone};
 ghost use Rattle.ck_model.specs.World.{Mounts};
 ghost use Rattle.ck_model.specs.ReadCalls.{info_of, listing_of};
 ghost use Rattle.ck_model.specs.Values.{Store};
 ghost use Rattle.ck_model.specs.TableWorld.{extent_count, world_on};
+ghost use Rattle.ck_files.specs.Drained.{IsDrained};
 ghost use Rattle.ck_files.specs.Plain.{IsOurs};
 ghost use Rattle.ck_files.specs.Reports.{limits_of, line_on, standing_at, state_shown};
 
@@ -59,11 +59,11 @@ pub fn ckpts<M: Meta>(alloc: Global, meta: &M) -> Result<Reply, NoMemory>
     Ok(Reply::Listing(CkptLines::of(lines)))
 }
 
-/// How much room the volume takes, where so many of its data blocks are in use and no checkpoint is
-/// gone.
+/// How much room the volume takes, where so many of its data blocks are in use and nothing is left to
+/// remove or to strip.
 pub fn info<M: Meta>(meta: &M, limits: Limits, used: u32) -> Reply
     requires ours { IsOurs (M.table meta.now) }
-    requires none { NoneGone (M.table meta.now) }
+    requires drained { IsDrained (M.table meta.now) }
     requires limits { limits ≡ limits_of (M.table meta.now) }
     requires used { used ≡ extent_count (M.table meta.now) }
     ensures { (store : Store) (mounts : Mounts) →

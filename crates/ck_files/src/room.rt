@@ -1,6 +1,7 @@
 ghost use Rattle.std.specs.Prelude.{◌≡◌, ◌≤◌, ◌<◌, ◌-◌, ◌^◌, true, false, IfErr, IfOk, MatchOption, OnOk, length};
 ghost use Rattle.ck_model.specs.TableWorld.{extent_count};
 ghost use Rattle.ck_push.specs.Growth.{gains, losses, write_count};
+ghost use Rattle.ck_nodata.specs.StripItem.{IsStrippedTo};
 ghost use Rattle.ck_files.specs.Allocated.{KeepsBusy, IsAllocated};
 ghost use Rattle.ck_files.specs.Files.{AreFiles};
 ghost use Rattle.ck_files.specs.Plain.{IsOurs};
@@ -10,6 +11,7 @@ ghost use Rattle.ck_files.specs.Worlds.{StandAlike};
 use crate::removal::drain;
 use ck_alloc::Blocks;
 use ck_model::{Change, Cost, Limits, Meta, Reply, SpaceOf};
+use ck_nodata::StripItem;
 use ck_push::cost;
 
 /// How many data blocks are in use.
@@ -61,28 +63,31 @@ pub fn lack<M: Meta>(meta: &M, blocks: &Blocks, limits: Limits, cost: &Cost) -> 
     None
 }
 
-/// Makes room for changes: what is gone is removed where they don't fit at once. Gives how many data
-/// blocks they write, or why they don't fit.
+/// Makes room for changes: where they don't fit at once, what is left to remove or to strip goes. Gives
+/// how many data blocks they write, or why they don't fit.
 pub(crate) fn make_room<M: Meta>(
     meta: &mut M,
     blocks: &mut Blocks,
+    stripped: &mut StripItem,
     limits: Limits,
     changes: &[Change],
 ) -> Result<u32, Reply>
     requires files { AreFiles limits (M.table meta.old) blocks.old }
     requires few { length changes.now ≤ 262146 }
+    requires stripped { IsStrippedTo (M.table meta.old) stripped.old }
     ensures alike { StandAlike (M.table meta.old) (M.table meta.new) }
     ensures files { AreFiles limits (M.table meta.new) blocks.new }
     ensures busy { KeepsBusy blocks.old blocks.new }
     ensures writes { IfOk result (λ writes. writes ≡ write_count changes.now) }
     ensures fits { OnOk result (has_room (M.table meta.new) (write_count changes.now) (gains (M.table meta.new) changes.now - losses (M.table meta.new) changes.now) ≡ true) }
     ensures lack { IfErr result (IsLacking (M.table meta.new) changes.now) }
+    ensures stripped { IsStrippedTo (M.table meta.new) stripped.new }
 {
     let at_once = cost(meta, changes);
     if fits(meta, blocks, &at_once) {
         return Ok(at_once.blocks);
     }
-    drain(meta, blocks);
+    drain(meta, blocks, stripped);
     let cost = cost(meta, changes);
     match lack(meta, blocks, limits, &cost) {
         Some(reply) => Err(reply),

@@ -5,10 +5,9 @@ use Rattle.ck_model.specs.declared.call.Call.TheVariants.{Create, Nodata, Remova
 use Rattle.ck_script.specs.declared.form.Form.{Form}
 use Rattle.ck_script.specs.declared.form.Form.TheVariants.{Called, Turned}
 
--- all calls but nodata, removable, restore, backup, full and create with flags
+-- all calls but removable, restore, backup, full and create of a removable checkpoint
 abbrev pub is_built_call : Call → Bool
-is_built_call (Create name nodata removable) = not nodata && not removable
-is_built_call (Nodata name synchronous) = false
+is_built_call (Create name nodata removable) = not removable
 is_built_call (Removable name on) = false
 is_built_call (Restore name) = false
 is_built_call (Backup letter later) = false

@@ -48,8 +48,8 @@ fn is_built_call(call: &Call) -> bool
     ensures { result ≡ built_call call.now }
 {
     match call {
-        Call::Create(_, nodata, removable) => !*nodata && !*removable,
-        Call::Nodata(_, _) | Call::Removable(_, _) | Call::Restore(_) => false,
+        Call::Create(_, _, removable) => !*removable,
+        Call::Removable(_, _) | Call::Restore(_) => false,
         Call::Backup(_, _) | Call::Full(_) => false,
         _ => true,
     }

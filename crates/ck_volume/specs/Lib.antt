@@ -9,3 +9,4 @@ pub mod TopCuts
 pub mod Volume
 pub mod Progress
 pub mod Turn
+pub mod Conversion

@@ -1,13 +1,14 @@
-ghost use Rattle.std.specs.Prelude.{◌≡◌, ◌≢◌, ◌<◌, ◌≤◌, ◌+◌, ◌^◌, ◌++◌, ◌∷◌, [], ℕ, false, Some, None, IsTrue, IsOk, IsSome, IfOk, IfErr, OnOk, OnErr, MatchOption, if◌then◌else◌, is_some, length, slice_get};
+ghost use Rattle.std.specs.Prelude.{◌≡◌, ◌≢◌, ◌<◌, ◌≤◌, ◌+◌, ◌^◌, ◌++◌, ◌∷◌, [], ℕ, false, Some, None, IsTrue, IsOk, IsSome, IfOk, IfErr, IfNone, IfSome, OnOk, OnErr, MatchOption, if◌then◌else◌, is_some, length, slice_get};
 ghost use Rattle.std.specs.Option.{option_or};
 ghost use Rattle.ck_disk.specs.Disk.{Image, Rose};
 ghost use Rattle.ck_log.specs.Layout.{IsSized};
 ghost use Rattle.ck_model.specs.declared.reply.Reply.TheVariants as reply;
-ghost use Rattle.ck_model.specs.Placed.{NoneGone};
 ghost use Rattle.ck_model.specs.Streams.{Texts};
 ghost use Rattle.ck_model.specs.World.{unmounted};
 ghost use Rattle.ck_model.specs.History.{CallsBy, numbers_of, is_write_fault, is_broken};
 ghost use Rattle.ck_files.specs.Built.{IsBuilt};
+ghost use Rattle.ck_files.specs.Conversion.{Converts};
+ghost use Rattle.ck_files.specs.Drained.{IsDrained, IsStepped};
 ghost use Rattle.ck_files.specs.Freeze.{Freezes};
 ghost use Rattle.ck_files.specs.Removal.{Removes};
 ghost use Rattle.ck_disk.specs.Runs.{Runs};
@@ -17,7 +18,6 @@ ghost use Rattle.ck_engine.specs.Formatted.{IsFormatFault};
 ghost use Rattle.ck_engine.specs.Opened.{IsOpenFault};
 ghost use Rattle.ck_engine.specs.Opened as opened;
 ghost use Rattle.ck_engine.specs.Recovery.{Recovers};
-ghost use Rattle.ck_remove.specs.Gone.{left_of};
 ghost use Rattle.ck_volume.specs.declared.background.Background.TheVariants as back;
 ghost use Rattle.ck_volume.specs.declared.commit.CommitAnswer.TheVariants as answer;
 ghost use Rattle.ck_volume.specs.declared.event.Turn.TheVariants.{Answered};
@@ -27,10 +27,11 @@ ghost use Rattle.ck_volume.specs.CommitAnswer.{broken_after, committed_after, sp
 ghost use Rattle.ck_volume.specs.Event.{newest, Follows, HasCause, IsEntryOf};
 ghost use Rattle.ck_volume.specs.Present.{present};
 ghost use Rattle.ck_volume.specs.Progress.{had_of, FitsHistory, IsBegunFor, IsLastOf};
-ghost use Rattle.ck_volume.specs.Turn.{GoesOn, OnAnswered, OnMore};
+ghost use Rattle.ck_volume.specs.Conversion.{strip_begun, ConvertsBy};
+ghost use Rattle.ck_volume.specs.Turn.{entries_had, GoesOn, OnAnswered, OnEntry, OnMore, OnReading, OnStrip, StripsOn, UnlessStrip};
 ghost use Rattle.ck_volume.specs.Volume.{disk_of, origin_of, table_of, mounts_of, history_of, room_of, length_of, committed_of, spoilt_of, told_of, broken_of, world_of, past_on, KeepsAllButRoom, KeepsLog, IsKept, IsBegun, IsOpened, IsFormatted};
 
-use crate::background::{Background, drain, step};
+use crate::background::{Background, drain, step, strip};
 use crate::commit::{CommitAnswer, commit};
 use crate::event::{Progress, Turn, happen};
 use crate::log::Log;
@@ -151,8 +152,78 @@ impl<D: Disk> Volume<D> {
 
     /// Makes one event of an actor's next call, which has this number among the actor's and began at this
     /// moment. It answers the call, and puts its entry into the history, or takes one block of a checkpoint
-    /// that it reads. It takes no memory for the entry.
+    /// that it reads. It takes no memory for the entry. The entry of a conversion step by step comes with its
+    /// first event; each event of it strips a data block, until none of its checkpoint's is left.
     pub fn event(
+        &mut self,
+        alloc: Global,
+        actor: u32,
+        seq: u32,
+        at: u64,
+        call: &Call,
+        progress: &mut Progress,
+    ) -> Turn
+        requires built { IsBuilt call.now }
+        requires room { UnlessStrip progress.old (0 < room_of self.old) }
+        requires number { seq + entries_had progress.old ≡ length (numbers_of (history_of self.old) actor) + 1 }
+        requires unspoilt { spoilt_of self.old ≡ None }
+        requires begun { IsBegunFor call.now progress.old }
+        requires fits { FitsHistory (D.means (origin_of self.old)) (told_of self.old) (history_of self.old) actor call.now progress.old }
+
+        // A block of a checkpoint was read, and more are left; or one was stripped.
+        ensures more { OnReading result progress.new (GoesOn D.means self.old self.new actor call.now progress.old progress.new) }
+        ensures strips { OnStrip progress.old (λ id. StripsOn D.means self.old self.new id result progress.new) }
+
+        // Where there is more to do, it is of the call, and fits it.
+        ensures begun { OnMore result (IsBegunFor call.now progress.new) }
+        ensures fits { OnMore result (FitsHistory (D.means (origin_of self.new)) (told_of self.new) (history_of self.new) actor call.now progress.new) }
+        ensures progress { OnAnswered result (progress.new ≡ Fresh) }
+
+        // Its one entry is legal where the history stands.
+        ensures added { OnEntry progress.old result progress.new (history_of self.new ≡ history_of self.old ++ newest (history_of self.new) ∷ []) }
+        ensures room { OnEntry progress.old result progress.new (room_of self.new + 1 ≡ room_of self.old) }
+        ensures entry { OnEntry progress.old result progress.new (IsEntryOf actor seq at (newest (history_of self.new))) }
+        ensures follows { OnEntry progress.old result progress.new (IsTrue (D.means (disk_of self.old)).tells → (texts : Texts) (calls : CallsBy) → calls actor seq ≡ Some call.now
+            → Follows texts calls (past_on (D.means (disk_of self.old)).shows self.old) (newest (history_of self.new)) (past_on (D.means (disk_of self.new)).shows self.new)) }
+
+        // Bytes of a checkpoint come with the last block that they touch, or at once where they touch none.
+        ensures last { OnEntry progress.old result progress.new (IsLastOf call.now (newest (history_of self.new)).reply (had_of progress.old + 1)) }
+
+        // A checkpoint costs one record where one is free: nothing is copied. Its removal marks that record alone, and so does
+        // its conversion.
+        ensures freezes { OnEntry progress.old result progress.new (Freezes call.now at (newest (history_of self.new)).reply (table_of self.old) (table_of self.new)) }
+        ensures removes { OnEntry progress.old result progress.new (Removes call.now (newest (history_of self.new)).reply (table_of self.old) (table_of self.new)) }
+        ensures converts { OnEntry progress.old result progress.new (ConvertsBy call.now (newest (history_of self.new)).reply (table_of self.old) (table_of self.new) result progress.new) }
+
+        // A failed write breaks it; once it is broken it says so, and leaves the device alone.
+        ensures broken { OnEntry progress.old result progress.new (broken_of self.new ≡ option_or (broken_of self.old) (if is_write_fault (newest (history_of self.new)).reply then Some (length_of self.old) else None)) }
+        ensures refused { OnEntry progress.old result progress.new (MatchOption (broken_of self.old) (is_broken (newest (history_of self.new)).reply ≡ false) (λ entry. (newest (history_of self.new)).reply ≡ reply.Broken entry)) }
+        ensures untouched { IsSome (broken_of self.old) → (result ≡ Answered) × (disk_of self.new ≡ disk_of self.old) }
+        ensures cause { OnEntry progress.old result progress.new (HasCause (D.means (disk_of self.old)) (D.means (disk_of self.new)) (newest (history_of self.new)).reply) }
+        ensures runs { Runs (D.means (disk_of self.old)) (D.means (disk_of self.new)) }
+
+        // A sync that was done has committed all entries up to itself.
+        ensures committed { OnEntry progress.old result progress.new (committed_of self.new ≡ (if acknowledges call.now (newest (history_of self.new)).reply then length_of self.new else committed_of self.old)) }
+        ensures origin { origin_of self.new ≡ origin_of self.old }
+        ensures spoilt { spoilt_of self.new ≡ spoilt_of self.old }
+
+        // It remembers the call. Its history is legal from the world that its origin recovers to, up to the present one, and
+        // each image that a crash may have left recovers a cut of it.
+        ensures told { OnEntry progress.old result progress.new (told_of self.new ≡ told_of self.old ++ call.now ∷ []) }
+        ensures kept { IsKept D.means self.new }
+    {
+        if let Some(id) = progress.strip_id() {
+            return self.strip_on(id, progress);
+        }
+        match self.answer(alloc, actor, seq, at, call, progress) {
+            Turn::More => Turn::More,
+            Turn::Answered => self.begin_strip(call, progress),
+        }
+    }
+
+    /// Answers an actor's next call, and puts its entry into the history, or takes one block of a checkpoint
+    /// that it reads.
+    fn answer(
         &mut self,
         alloc: Global,
         actor: u32,
@@ -165,6 +236,7 @@ impl<D: Disk> Volume<D> {
         requires room { 0 < room_of self.old }
         requires number { seq ≡ length (numbers_of (history_of self.old) actor) + 1 }
         requires unspoilt { spoilt_of self.old ≡ None }
+        requires unless_strip { OnStrip progress.old (λ id. ⊥) }
         requires begun { IsBegunFor call.now progress.old }
         requires fits { FitsHistory (D.means (origin_of self.old)) (told_of self.old) (history_of self.old) actor call.now progress.old }
 
@@ -182,9 +254,11 @@ impl<D: Disk> Volume<D> {
         // Bytes of a checkpoint come with the last block that they touch, or at once where they touch none.
         ensures last { OnAnswered result (IsLastOf call.now (newest (history_of self.new)).reply (had_of progress.old + 1)) }
 
-        // A checkpoint costs one record where one is free: nothing is copied. Its removal marks that record alone.
+        // A checkpoint costs one record where one is free: nothing is copied. Its removal and its conversion change that record
+        // alone.
         ensures freezes { OnAnswered result (Freezes call.now at (newest (history_of self.new)).reply (table_of self.old) (table_of self.new)) }
         ensures removes { OnAnswered result (Removes call.now (newest (history_of self.new)).reply (table_of self.old) (table_of self.new)) }
+        ensures converts { OnAnswered result (Converts call.now (newest (history_of self.new)).reply (table_of self.old) (table_of self.new)) }
 
         // A failed write breaks it; once it is broken it says so, and leaves the device alone.
         ensures broken { OnAnswered result (broken_of self.new ≡ option_or (broken_of self.old) (if is_write_fault (newest (history_of self.new)).reply then Some (length_of self.old) else None)) }
@@ -224,8 +298,53 @@ impl<D: Disk> Volume<D> {
         }
     }
 
-    /// Takes one step of what is left to do in the background: today, the removal of checkpoints that
-    /// are gone. Nobody sees it, and the device isn't called.
+    /// Strips a data block where one of this checkpoint is left to strip, unless the volume is broken. The
+    /// call is through where none of it is left.
+    fn strip_on(&mut self, id: u32, progress: &mut Progress) -> Turn
+        ensures strips { StripsOn D.means self.old self.new id result progress.new }
+        ensures progress { OnAnswered result (progress.new ≡ Fresh) }
+        ensures untouched { IsSome (broken_of self.old) → result ≡ Answered }
+        ensures kept { IsKept D.means self.new }
+    {
+        if strip(&mut self.engine, &self.log, id) {
+            *progress = Progress::Strip(id);
+            Turn::More
+        } else {
+            *progress = Progress::Fresh;
+            Turn::Answered
+        }
+    }
+
+    /// The checkpoint that a call goes on to strip which was just answered: that of a conversion step by
+    /// step which was done.
+    fn to_strip(&self, call: &Call) -> Option<u32>
+        requires { 0 < length_of self.now }
+        ensures { result ≡ strip_begun call.now (newest (history_of self.now)).reply (table_of self.now) }
+    {
+        match call {
+            Call::Nodata(name, true) if self.log.is_done() => self.engine.find(name),
+            _ => None,
+        }
+    }
+
+    /// Begins to strip where the call goes on to, which was just answered.
+    fn begin_strip(&mut self, call: &Call, progress: &mut Progress) -> Turn
+        requires answered { 0 < length_of self.old }
+        requires fresh { progress.old ≡ Fresh }
+        ensures strips { IfSome (strip_begun call.now (newest (history_of self.old)).reply (table_of self.old)) (λ id. StripsOn D.means self.old self.new id result progress.new) }
+        ensures through { IfNone (strip_begun call.now (newest (history_of self.old)).reply (table_of self.old)) ((result ≡ Answered) × (progress.new ≡ Fresh) × (self.new ≡ self.old)) }
+        ensures progress { OnAnswered result (progress.new ≡ Fresh) }
+        ensures kept { IsKept D.means self.new }
+    {
+        match self.to_strip(call) {
+            Some(id) => self.strip_on(id, progress),
+            None => Turn::Answered,
+        }
+    }
+
+    /// Takes one step of what is left to do in the background: of the removal of a checkpoint that is gone,
+    /// or, where none is, of the stripping of those that keep no data. Nobody sees it, and the device isn't
+    /// called.
     pub fn background(&mut self) -> Background
         ensures world { world_of (D.means (disk_of self.old)).shows self.new ≡ world_of (D.means (disk_of self.old)).shows self.old }
         ensures mounts { mounts_of self.new ≡ mounts_of self.old }
@@ -233,8 +352,8 @@ impl<D: Disk> Volume<D> {
         ensures disk { disk_of self.new ≡ disk_of self.old }
 
         // A step leaves one less to do; a broken volume stays as it is.
-        ensures stepped { result ≡ back.Stepped → left_of (table_of self.new) + 1 ≡ left_of (table_of self.old) }
-        ensures idle { result ≡ back.Idle → NoneGone (table_of self.new) }
+        ensures stepped { result ≡ back.Stepped → IsStepped (table_of self.old) (table_of self.new) }
+        ensures idle { result ≡ back.Idle → IsDrained (table_of self.new) }
         ensures broken { result ≡ back.Broken → IsSome (broken_of self.old) }
         ensures untouched { IsSome (broken_of self.old) → (result ≡ back.Broken) × KeepsAllButRoom self.old self.new }
 
@@ -243,13 +362,13 @@ impl<D: Disk> Volume<D> {
         step(&mut self.engine, &self.log)
     }
 
-    /// Takes all background steps that are left: no checkpoint is gone afterwards.
+    /// Takes all background steps that are left.
     pub fn drain(&mut self)
         ensures world { world_of (D.means (disk_of self.old)).shows self.new ≡ world_of (D.means (disk_of self.old)).shows self.old }
         ensures mounts { mounts_of self.new ≡ mounts_of self.old }
         ensures log { KeepsLog self.old self.new }
         ensures disk { disk_of self.new ≡ disk_of self.old }
-        ensures none { broken_of self.old ≡ None → NoneGone (table_of self.new) }
+        ensures drained { broken_of self.old ≡ None → IsDrained (table_of self.new) }
         ensures untouched { IsSome (broken_of self.old) → KeepsAllButRoom self.old self.new }
         ensures kept { IsKept D.means self.new }
     {
@@ -284,8 +403,8 @@ impl<D: Disk> Volume<D> {
         // Its history stands as before, and each image now recovers a cut of it with all that was committed.
         ensures kept { IsKept D.means self.new }
 
-        // Afterwards a crash leaves the present world, and nothing beside it where no checkpoint is gone.
-        ensures exact { NoneGone (table_of self.old) → result ≡ answer.Done → IsTrue (D.means (disk_of self.old)).tells
+        // Afterwards a crash leaves the present world, and nothing beside it where nothing is left to remove or to strip.
+        ensures exact { IsDrained (table_of self.old) → result ≡ answer.Done → IsTrue (D.means (disk_of self.old)).tells
             → (image : Image) → (D.means (disk_of self.new)).may_leave image → IsExact (unmounted (world_of (D.means (disk_of self.new)).shows self.new)) image }
     {
         let answer = commit(&mut self.engine, &mut self.log, alloc);

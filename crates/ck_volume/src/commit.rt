@@ -1,9 +1,9 @@
 ghost use Rattle.std.specs.Prelude.{◌≡◌, ◌≢◌, ◌⊎◌, ℕ, Some, None, IsTrue, IsSome};
 ghost use Rattle.ck_disk.specs.Disk.{Image, Rose};
-ghost use Rattle.ck_model.specs.Placed.{NoneGone};
 ghost use Rattle.ck_model.specs.World.{World, unmounted};
 ghost use Rattle.ck_engine.specs.Engine.{disk_of, mounts_of, table_of};
 ghost use Rattle.ck_disk.specs.Runs.{Runs};
+ghost use Rattle.ck_files.specs.Drained.{IsDrained};
 ghost use Rattle.ck_engine.specs.Exact.{IsExact};
 ghost use Rattle.ck_volume.specs.declared.commit.CommitAnswer.TheVariants as answer;
 ghost use Rattle.ck_volume.specs.CommitAnswer.{broken_after};
@@ -55,10 +55,10 @@ pub(crate) fn commit<D: Disk>(engine: &mut Engine<D>, log: &mut Log, alloc: Glob
     ensures kept { broken_of (present engine.new log.new) ≡ None → IsTrue (D.means (disk_of engine.old)).tells → (w : World) → KeepsWorld (D.means (disk_of engine.old)) (present engine.old log.old) w
         → KeepsWorld (D.means (disk_of engine.new)) (present engine.new log.new) w ⊎ KeepsWorld (D.means (disk_of engine.new)) (present engine.new log.new) (unmounted (world_of (D.means (disk_of engine.old)).shows (present engine.old log.old))) }
 
-    // Afterwards it leaves the present world, and nothing beside it where no checkpoint is gone.
+    // Afterwards it leaves the present world, and nothing beside it where nothing is left to remove or to strip.
     ensures committed { result ≡ answer.Done → IsTrue (D.means (disk_of engine.old)).tells → (w : World) → KeepsWorld (D.means (disk_of engine.old)) (present engine.old log.old) w
         → KeepsWorld (D.means (disk_of engine.new)) (present engine.new log.new) (unmounted (world_of (D.means (disk_of engine.new)).shows (present engine.new log.new))) }
-    ensures exact { NoneGone (table_of engine.old) → result ≡ answer.Done → IsTrue (D.means (disk_of engine.old)).tells → (w : World) → KeepsWorld (D.means (disk_of engine.old)) (present engine.old log.old) w
+    ensures exact { IsDrained (table_of engine.old) → result ≡ answer.Done → IsTrue (D.means (disk_of engine.old)).tells → (w : World) → KeepsWorld (D.means (disk_of engine.old)) (present engine.old log.old) w
         → (image : Image) → (D.means (disk_of engine.new)).may_leave image → IsExact (unmounted (world_of (D.means (disk_of engine.new)).shows (present engine.new log.new))) image }
 {
     if let Some(number) = log.broken {

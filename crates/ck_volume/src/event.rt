@@ -10,6 +10,7 @@ ghost use Rattle.ck_model.specs.Limits.{file_limit};
 ghost use Rattle.ck_files.specs.Built.{is_cread, IsBuilt};
 ghost use Rattle.ck_read.specs.Progress.{turns_had, IsOnWay};
 ghost use Rattle.ck_engine.specs.Engine as files;
+ghost use Rattle.ck_files.specs.Conversion.{Converts};
 ghost use Rattle.ck_files.specs.Freeze.{Freezes};
 ghost use Rattle.ck_files.specs.Removal.{Removes};
 ghost use Rattle.ck_engine.specs.Engine.{disk_of, table_of, IsWhole};
@@ -18,8 +19,8 @@ ghost use Rattle.ck_volume.specs.Cuts.{SurvivesOnTheWay, KeepsOnTheWay};
 ghost use Rattle.ck_volume.specs.Event.{newest, Answers, Follows, HasCause, IsEntryOf};
 ghost use Rattle.ck_volume.specs.declared.event.Progress.TheVariants.{Fresh};
 ghost use Rattle.ck_volume.specs.declared.event.Turn.TheVariants.{Answered};
-ghost use Rattle.ck_volume.specs.Progress.{had_of, read_of, FitsNow, FitsWorld, IsBegunFor, IsLastOf, IsNowOf, IsOfCall};
-ghost use Rattle.ck_volume.specs.Turn.{IsReading, OnAnswered, OnMore, OnRead, OnReply};
+ghost use Rattle.ck_volume.specs.Progress.{had_of, read_of, strip_of, FitsNow, FitsWorld, IsBegunFor, IsLastOf, IsNowOf, IsOfCall};
+ghost use Rattle.ck_volume.specs.Turn.{IsReading, OnAnswered, OnMore, OnRead, OnReply, OnStrip};
 ghost use Rattle.ck_volume.specs.Present.{present, history_of, length_of, broken_of, world_of, past_on, IsReady, KeepsWorld, Survives};
 
 use crate::log::Log;
@@ -44,6 +45,8 @@ pub enum Progress {
     Fresh,
     /// It reads a checkpoint.
     Read(ReadProgress),
+    /// It was answered, and strips the checkpoint with this id.
+    Strip(u32),
 }
 
 impl Progress {
@@ -54,6 +57,17 @@ impl Progress {
         match self {
             Progress::Fresh => None,
             Progress::Read(read) => Some(read),
+            Progress::Strip(_) => None,
+        }
+    }
+
+    /// The checkpoint that it strips.
+    pub(crate) fn strip_id(&self) -> Option<u32>
+        ensures { result ≡ strip_of self.now }
+    {
+        match self {
+            Progress::Strip(id) => Some(*id),
+            _ => None,
         }
     }
 }
@@ -88,6 +102,7 @@ fn answer<D: Disk>(
     ensures ready { IsReady (D.means (disk_of engine.new)) (present engine.new log.new) }
     ensures freezes { Freezes call.now moment result (table_of engine.old) (table_of engine.new) }
     ensures removes { Removes call.now result (table_of engine.old) (table_of engine.new) }
+    ensures converts { Converts call.now result (table_of engine.old) (table_of engine.new) }
     ensures history { log.new.history ≡ log.old.history }
     ensures broken { log.new.broken ≡ (if is_write_fault result then Some (length_of (present engine.old log.old)) else None) }
     ensures not_refused { is_broken result ≡ false }
@@ -163,6 +178,7 @@ fn one_event<D: Disk>(
     ensures ready { IsReady (D.means (disk_of engine.new)) (present engine.new log.new) }
     ensures freezes { OnReply result (λ reply. Freezes call.now moment reply (table_of engine.old) (table_of engine.new)) }
     ensures removes { OnReply result (λ reply. Removes call.now reply (table_of engine.old) (table_of engine.new)) }
+    ensures converts { OnReply result (λ reply. Converts call.now reply (table_of engine.old) (table_of engine.new)) }
     ensures history { log.new.history ≡ log.old.history }
     ensures broken { OnReply result (λ reply. log.new.broken ≡ (if is_write_fault reply then Some (length_of (present engine.old log.old)) else None)) }
     ensures not_refused { OnReply result (λ reply. is_broken reply ≡ false) }
@@ -190,7 +206,7 @@ fn one_event<D: Disk>(
 
 /// Makes one event of an actor's call with this number, which began at this moment. It answers the
 /// call, and puts its entry into the log, or takes one block of a checkpoint that it reads. It takes no
-/// memory for the entry.
+/// memory for the entry. What is stripped isn't looked at here.
 pub(crate) fn happen<D: Disk>(
     engine: &mut Engine<D>,
     log: &mut Log,
@@ -204,6 +220,7 @@ pub(crate) fn happen<D: Disk>(
     requires built { IsBuilt call.now }
     requires ready { IsReady (D.means (disk_of engine.old)) (present engine.old log.old) }
     requires room { 0 < room_of log.old.history }
+    requires unless_strip { OnStrip progress.old (λ id. ⊥) }
     requires begun { IsBegunFor call.now progress.old }
     requires fits { IsTrue (D.means (disk_of engine.old)).tells → FitsWorld (world_of (D.means (disk_of engine.old)).shows (present engine.old log.old)) actor call.now progress.old }
 
@@ -225,9 +242,10 @@ pub(crate) fn happen<D: Disk>(
         → Follows texts calls (past_on (D.means (disk_of engine.old)).shows (present engine.old log.old)) (newest (history_of (present engine.new log.new))) (past_on (D.means (disk_of engine.new)).shows (present engine.new log.new))) }
     ensures ready { IsReady (D.means (disk_of engine.new)) (present engine.new log.new) }
 
-    // A checkpoint costs one record where one is free: nothing is copied. Its removal marks that record alone.
+    // A checkpoint costs one record where one is free: nothing is copied. Its removal and its conversion change that record alone.
     ensures freezes { OnAnswered result (Freezes call.now at (newest (history_of (present engine.new log.new))).reply (table_of engine.old) (table_of engine.new)) }
     ensures removes { OnAnswered result (Removes call.now (newest (history_of (present engine.new log.new))).reply (table_of engine.old) (table_of engine.new)) }
+    ensures converts { OnAnswered result (Converts call.now (newest (history_of (present engine.new log.new))).reply (table_of engine.old) (table_of engine.new)) }
 
     // A failed write breaks the volume; once it is broken it says so, and leaves the device alone.
     ensures broken { OnAnswered result (broken_of (present engine.new log.new) ≡ option_or (broken_of (present engine.old log.old)) (if is_write_fault (newest (history_of (present engine.new log.new))).reply then Some (length_of (present engine.old log.old)) else None)) }

@@ -39,11 +39,19 @@ impl Log {
         }
     }
 
+    /// Whether the call that was answered last was done.
+    pub fn is_done(&self) -> bool
+        requires { 0 < length (entries_of self.now.history) }
+        ensures { result ≡ is_done (newest (entries_of self.now.history)).reply }
+    {
+        is_done(&self.history.entry(self.history.length() - 1).reply)
+    }
+
     /// Whether this call, which was answered last, is a sync that was done.
     pub fn acknowledged(&self, call: &Call) -> bool
         requires { 0 < length (entries_of self.now.history) }
         ensures { result ≡ acknowledges call.now (newest (entries_of self.now.history)).reply }
     {
-        is_sync(call) && is_done(&self.history.entry(self.history.length() - 1).reply)
+        is_sync(call) && self.is_done()
     }
 }
