@@ -38,7 +38,7 @@ use Rattle.ck_actor.specs.Place.{IsFound}
 use Rattle.ck_actor.specs.Counts.{AsFrozen, FrozenMaps, Takes, frozen_on, frozen_turns}
 use Rattle.ck_actor.proofs.PlaceLemmas.{all_before, calls_as_many, left_at, own_at, own_call, own_line, own_number}
 
-numbers_of-more : (history : List Entry) (entry : Entry) (actor : ℕ) → entry.actor ≡ actor → numbers_of (history ++ entry ∷ []) actor ≡ numbers_of history actor ++ entry.seq ∷ []
+pub numbers_of-more : (history : List Entry) (entry : Entry) (actor : ℕ) → entry.actor ≡ actor → numbers_of (history ++ entry ∷ []) actor ≡ numbers_of history actor ++ entry.seq ∷ []
 numbers_of-more history entry actor own =
     let same : nat_eq entry.actor actor ≡ true = grind (arith, nat_tests, own) in
     filter_map-append (λ (e : Entry). if nat_eq e.actor actor then Some e.seq else None) history (entry ∷ [])
@@ -89,7 +89,7 @@ longer history entry = simp length-append (omega arith)
 
 -- ---- the call of its line
 
-lengthen : (xs : List ℕ) (x : ℕ) → length (xs ++ x ∷ []) ≡ length xs + 1
+pub lengthen : (xs : List ℕ) (x : ℕ) → length (xs ++ x ∷ []) ≡ length xs + 1
 lengthen xs x = simp length-append (omega arith)
 
 -- it is the next one of the actor
