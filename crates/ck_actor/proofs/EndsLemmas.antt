@@ -16,25 +16,25 @@ use Rattle.ck_model.specs.Streams.{Texts}
 use Rattle.ck_model.specs.World.{World}
 use Rattle.ck_script.specs.declared.line.Line.{Line}
 use Rattle.ck_script.specs.Numbered.{calls_in, numbers_in, IsNumbered}
-use Rattle.ck_files.specs.Built.{IsBuilt}
 use Rattle.ck_engine.specs.Recovery.{Recovers}
-use Rattle.ck_volume.specs.Progress.{had_of}
 use Rattle.ck_volume.specs.TopCuts.{synced_count}
 use Rattle.ck_volume.specs.Volume.{committed_of, history_of, origin_of, room_of, spoilt_of, told_of}
 use Rattle.ck_volume.specs.declared.volume.Volume.{Volume}
 use Rattle.ck_actor.specs.declared.actor.Actor.{Actor}
 use Rattle.ck_actor.specs.declared.place.Place.{Place}
-use Rattle.ck_actor.specs.Actor.{IsNew, IsOnWay, OnRead}
+use Rattle.ck_volume.specs.declared.event.Progress.{Progress}
+use Rattle.ck_volume.specs.declared.event.Progress.TheVariants.{Fresh, Read, Strip}
+use Rattle.ck_actor.specs.Actor.{entered_line, entered_numbers, HasHad, IsNew, IsOnWay, OnWay}
 use Rattle.ck_actor.specs.Counts.{TurnCounts}
 use Rattle.ck_actor.specs.Place.{answered_count, call_count}
 use Rattle.ck_actor.specs.Played.{places_of, AreBegun, AreFinished, AreTurned, HasStepped, IsNone, IsPlayed, IsPlayer, IsUnderWay}
 use Rattle.ck_actor.specs.Turned.{Answered}
 use Rattle.ck_actor.specs.Turns.{Follows, at_first}
-use Rattle.ck_actor.specs.Walk.{Standings, IsWalked}
+use Rattle.ck_actor.specs.Walk.{Standings, seq_at, Agrees, IsWalked}
 use Rattle.ck_actor.proofs.LeftLemmas.{completed_all, completed_begins}
 use Rattle.ck_actor.proofs.PlaceLemmas.{calls_as_many, numbers_in-append}
 use Rattle.ck_actor.proofs.PlayedLemmas.{left_first}
-use Rattle.ck_actor.proofs.StepLemmas.{lines_last}
+use Rattle.ck_actor.proofs.StepLemmas.{count_grows}
 use Rattle.ck_actor.proofs.TurnLemmas.{walk_begins}
 
 below : (m n : ℕ) → nat_lt m n ≡ true → m < n
@@ -53,11 +53,14 @@ new_player : (origin : Meaning) (clock : ClockMeaning) (lines : List Line) (numb
 new_player origin clock lines number actor new = record {
   number_is = ap (λ (p : Place). p.actor) new.place_is;
   stands = record {
-    numbers = subst (λ (p : Place). [] ≡ numbers_in (take p.line lines) p.actor) (sym new.place_is) refl;
+    numbers = subst (λ p. [] ≡ entered_numbers lines actor.place p) (sym new.progress_is) (subst (λ (p : Place). [] ≡ entered_numbers lines p Fresh) (sym new.place_is) refl);
     on_way = subst (λ p. IsOnWay origin [] lines [] actor.place p) (sym new.progress_is) tt;
   };
-  moment = subst (λ p. OnRead p (IsTrue clock.tells → actor.began ≡ clock.moment)) (sym new.progress_is) tt;
-  standing = λ i. record { through = answered_count lines (new.place_is i); had = had_of (new.progress_is i) };
+  moment = subst (λ p. OnWay p (IsTrue clock.tells → actor.began ≡ clock.moment)) (sym new.progress_is) tt;
+  standing = record {
+    through = subst (λ (p : Place). 0 ≡ answered_count lines p) (sym new.place_is) refl;
+    had = subst (λ p. HasHad p 0) (sym new.progress_is) refl;
+  };
 }
 
 first_played : (origin : Meaning) (clock : ClockMeaning) (lines : List Line) (actors : List Actor) (room : ℕ) → AreBegun actors → length lines ≤ room → IsPlayed origin clock lines actors at_first once (record { told = []; history = [] }) room
@@ -66,9 +69,8 @@ first_played origin clock lines actors room begun enough = record {
   players = λ place actor is. new_player origin clock lines (suc place) actor (begun.each place actor is);
   others = λ number none. refl;
   sound = record { positive = λ actor seq. omega arith; there = λ actor. inl refl };
-  ended = tt;
   left = let all = left_first lines 64 in omega (arith, all, enough);
-  takes = λ is_told w found texts. tt;
+  takes = λ is_told w found texts counts agrees. tt;
   answered = tt;
   moments = λ is_told. tt;
 }
@@ -106,7 +108,12 @@ first_finished means origin clock lines turns volume actors so_far = record {
 
 -- ---- behind the last one
 
--- an actor whose calls are all before its place has just those
+entered_behind : (place : Place) (p : Progress) → place.line ≤ entered_line place p
+entered_behind place Fresh = omega arith
+entered_behind place (Read read) = omega arith
+entered_behind place (Strip id) = omega arith
+
+-- an actor whose calls are all before a line has just those
 all_numbers : (lines : List Line) (at actor : ℕ) → call_count lines actor ≤ call_count (take at lines) actor → numbers_in (take at lines) actor ≡ numbers_in lines actor
 all_numbers lines at actor enough =
     let parts : numbers_in lines actor ≡ numbers_in (take at lines) actor ++ numbers_in (drop at lines) actor =
@@ -149,11 +156,13 @@ module _ {D : Type 0} {g : Ghosts D} (means : D → Meaning) (origin : D) (clock
             let number = player.number_is in
             let whole : take (length lines) lines ≡ lines = take_all (length lines) lines (omega arith) in
             let all : call_count lines (suc place) ≤ (end.at (suc place)).through = subst (λ (xs : List Line). call_count xs (suc place) ≤ (end.at (suc place)).through) whole (end.completed.all (suc place)) in
-            let through : answered_count lines actor.place ≡ (end.at (suc place)).through = ap (λ s. s.through) player.standing in
+            let through : (end.at (suc place)).through ≡ answered_count lines actor.place = player.standing.through in
             let here : call_count (take actor.place.line lines) (suc place) ≡ answered_count lines actor.place = ap (call_count (take actor.place.line lines)) (sym number) in
-            let enough : call_count lines (suc place) ≤ call_count (take actor.place.line lines) (suc place) = omega (arith, all, through, here) in
-            subst (λ n. numbers_of (history_of volume) n ≡ numbers_in (take actor.place.line lines) n) number player.stands.numbers
-            ∙ all_numbers lines actor.place.line (suc place) enough
+            let last = entered_line actor.place actor.progress in
+            let more = count_grows lines actor.place.line last (suc place) (entered_behind actor.place actor.progress) in
+            let enough : call_count lines (suc place) ≤ call_count (take last lines) (suc place) = omega (arith, all, through, here, more) in
+            subst (λ n. numbers_of (history_of volume) n ≡ numbers_in (take last lines) n) number player.stands.numbers
+            ∙ all_numbers lines last (suc place) enough
             ∙ numbered (suc place)
             ∙ ap (range_with_len 1) (sym (calls_as_many lines (suc place)))
         | inr past ↦ let many = played.many in let less = past.0 in absurd (omega (arith, many, less, within))
@@ -170,14 +179,28 @@ module _ {D : Type 0} {g : Ghosts D} (means : D → Meaning) (origin : D) (clock
             no_entries lines (history_of volume) (suc place) numbered (end.under_way.played.others (suc place) (inr above)) (none_numbers lines (suc place) among (inr above))
       ] refl
 
+  -- each count is that of a call that is through
+  all_agree : Agrees end.known end.at end.known
+  all_agree = record {
+    through = λ actor seq low. refl;
+    going = λ actor.
+        let whole : take (length lines) lines ≡ lines = take_all (length lines) lines (omega arith) in
+        let all : call_count lines actor ≤ (end.at actor).through = subst (λ (xs : List Line). call_count xs actor ≤ (end.at actor).through) whole (end.completed.all actor) in
+        let sound = end.under_way.played.sound in
+        let some = sound.positive actor (seq_at end.at actor) in
+        elim (sound.there actor) [
+          | inl none ↦ omega (arith, none, some)
+          | inr there ↦ absurd (omega (arith, there, all))
+        ];
+  }
+
   -- the history follows the turns
-  pub whole_follows : AllByRecursion (λ line. IsBuilt line.call) lines → IsTrue (means origin).tells → (w : World) → Recovers (means origin).shows w → (texts : Texts)
-      → Follows texts (record { calls = lines; turns = turns }) w (history_of volume)
-  whole_follows built is_told w found texts = record {
+  pub whole_follows : IsTrue (means origin).tells → (w : World) → Recovers (means origin).shows w → (texts : Texts) → Follows texts (record { calls = lines; turns = turns }) w (history_of volume)
+  whole_follows is_told w found texts = record {
     counts = end.known;
-    taken = end.under_way.played.takes is_told w found texts;
+    taken = end.under_way.played.takes is_told w found texts end.known all_agree;
     order = completed_all lines end.first end.counts end.before (length lines) end.at end.known (places_of (history_of volume)) turns (omega arith)
-        end.walked end.first_sound end.under_way.played.sound end.completed (lines_last lines built);
+        end.walked end.first_sound end.under_way.played.sound end.completed;
   }
 
 -- ---- the same origin and clock under other names

@@ -1,65 +1,36 @@
 -- What one turn does to the turns that were taken, and to the calls that are left behind them.
-use Rattle.std.proofs.Common.{◌≡◌, ◌≤◌, ◌<◌, ◌⊎◌, inl, inr, ℕ, zero, suc, ◌+◌, ◌-◌, true, false, Option, Some, None, List, [], ◌∷◌, ◌++◌, length, take, get_or, nat_eq, nat_le, nat_lt, if◌then◌else◌, refl, sym, ap, subst, ◌∙◌, arith, length-append}
+use Rattle.std.proofs.Common.{◌≡◌, ◌≤◌, ◌<◌, ◌⊎◌, ◌&&◌, inl, inr, ℕ, zero, suc, ◌+◌, ◌-◌, Bool, true, false, not, Option, Some, None, List, [], ◌∷◌, ◌++◌, length, take, get_or, nat_eq, nat_le, nat_lt, if◌then◌else◌, refl, sym, ap, subst, ◌∙◌, arith, append_assoc, length-append}
 use Rattle.std.specs.Prelude.{slice_get}
-use Rattle.std.specs.List.{cons_option, filter_map, AllByRecursion}
+use Rattle.std.specs.List.{cons_option, filter_map}
 use Rattle.std.specs.Option.{option_map_or}
 use Rattle.std.proofs.lemmas.Bool.Decides.{nat_tests}
+use Rattle.std.proofs.lemmas.List.{append-nil}
 use Rattle.std.proofs.lemmas.Option.{get_or_from_slice_get, slice_get-get_or, slice_get_within}
 use Rattle.ck_disk.specs.Disk.{Meaning}
 use Rattle.ck_disk.specs.declared.disk.Disk.{Ghosts}
 use Rattle.ck_io.specs.Clock.{ClockMeaning}
 use Rattle.ck_model.specs.declared.call.Call.{Call}
-use Rattle.ck_model.specs.declared.call.Call.TheVariants.{Nodata}
-use Rattle.ck_model.specs.declared.entry.Entry.{Entry}
-use Rattle.ck_model.specs.History.{call_at, calls_of}
+use Rattle.ck_model.specs.History.{call_at}
+use Rattle.ck_model.specs.Table.{Table}
 use Rattle.ck_script.specs.declared.line.Line.{Line}
 use Rattle.ck_script.specs.Numbered.{calls_in, numbers_in, IsNumbered}
-use Rattle.ck_files.specs.Built.{IsBuilt}
 use Rattle.ck_volume.specs.declared.event.Progress.{Progress}
-use Rattle.ck_volume.specs.declared.event.Progress.TheVariants.{Fresh, Read}
+use Rattle.ck_volume.specs.declared.event.Progress.TheVariants.{Fresh, Read, Strip}
 use Rattle.ck_volume.specs.declared.volume.Volume.{Volume}
-use Rattle.ck_volume.specs.Progress.{had_of}
-use Rattle.ck_volume.specs.Volume.{history_of}
-use Rattle.ck_volume.proofs.FitsLaws.{had_within}
+use Rattle.ck_volume.specs.Volume.{history_of, table_of}
 use Rattle.ck_actor.specs.declared.actor.Actor.{Actor}
-use Rattle.ck_actor.specs.declared.place.Place.{Place}
-use Rattle.ck_actor.specs.Actor.{number_of, standing_of, IsOnWay}
+use Rattle.ck_actor.specs.Actor.{number_of, turns_left, HasFewer, HasHad, OnWay, StandsAt}
 use Rattle.ck_actor.specs.Completed.{IsCompleted, IsSound}
 use Rattle.ck_actor.specs.Counts.{TurnCounts}
 use Rattle.ck_actor.specs.Place.{answered_count, call_count}
-use Rattle.ck_actor.specs.Played.{places_of, AreFinished, HasStepped, IsPlayer, IsStep, IsUnderWay}
+use Rattle.ck_actor.specs.Played.{places_of, AreFinished, HasStepped, IsPlayer, IsStep, IsStepGoing, IsStepGone, IsUnderWay}
 use Rattle.ck_actor.specs.Turned.{answered_by_now}
-use Rattle.ck_actor.specs.Turns.{Standing, going_on, gone_on}
-use Rattle.ck_actor.specs.Walk.{Standings, seq_at, moved_to, with_count, IsWalked}
-use Rattle.ck_actor.proofs.LeftLemmas.{completed_before, completed_going, completed_gone, seq_here}
+use Rattle.ck_actor.specs.Turns.{Standing, answering_turn, going_on, gone_on}
+use Rattle.ck_actor.specs.Walk.{Standings, seq_at, answered_at, is_ahead, moved_to, with_count, IsWalked}
+use Rattle.ck_actor.proofs.LeftLemmas.{ahead_next, completed_before, completed_gone, seq_here}
 use Rattle.ck_actor.proofs.PlaceLemmas.{own_call, own_line, own_number}
-use Rattle.ck_actor.proofs.PlayedLemmas.{moved_own, some_one, weaken}
-use Rattle.ck_actor.proofs.TurnLemmas.{IsAtLast, walk_going, walk_gone, walk_idle}
-
--- ---- calls that a volume has today are answered at their last turns
-
-pub built_last : (call : Call) → IsBuilt call → IsAtLast call
-built_last (Nodata name true) built count = absurd built
-built_last _ built count = refl
-
-first_or : (P : Call → Type 0) (first : Call) (rest : List Call) (place : ℕ) (call : Call) → P first → ((place : ℕ) → slice_get rest place ≡ Some call → P call) → slice_get (first ∷ rest) place ≡ Some call → P call
-first_or P first rest zero call own others is = subst P (some_one first call is) own
-first_or P first rest (suc place) call own others is = others place is
-
-each_call : (P : Call → Type 0) (lines : List Line) (actor place : ℕ) (call : Call) → AllByRecursion (λ line. P line.call) lines → slice_get (calls_of (calls_in lines) actor) place ≡ Some call → P call
-each_call P [] actor place call all is = cc
-each_call P (line ∷ lines) actor place call all is =
-    elim (nat_eq line.actor actor) as (λ b. slice_get (cons_option (if b then Some line.call else None) (calls_of (calls_in lines) actor)) place ≡ Some call → P call) [
-      | true ↦ first_or P line.call (calls_of (calls_in lines) actor) place call all.0 (λ place is. each_call P lines actor place call all.1 is)
-      | false ↦ λ is. each_call P lines actor place call all.1 is
-    ] is
-
-pub at_last : (lines : List Line) → AllByRecursion (λ line. IsBuilt line.call) lines → (actor seq : ℕ) (call : Call) → call_at (calls_in lines) actor seq ≡ Some call → IsAtLast call
-at_last lines built actor zero call is = cc
-at_last lines built actor (suc place) call is = built_last call (each_call IsBuilt lines actor place call built is)
-
-pub lines_last : (lines : List Line) → AllByRecursion (λ line. IsBuilt line.call) lines → AllByRecursion (λ line. IsAtLast line.call) lines
-lines_last lines built = weaken (λ (line : Line). IsBuilt line.call) (λ line. IsAtLast line.call) lines (λ line own. built_last line.call own) built
+use Rattle.ck_actor.proofs.PlayedLemmas.{moved_own, some_one}
+use Rattle.ck_actor.proofs.TurnLemmas.{IsAtFirst, IsAtLast, answered_when, same_number, walk_going, walk_gone, walk_idle}
 
 -- ---- a turn of those that the script lists
 
@@ -68,17 +39,17 @@ walk_is lines at next known counts turns before after at_is known_is is walked =
     subst (λ (s : Standings). IsWalked lines s counts turns after) (sym at_is)
     (subst (λ (k : TurnCounts). IsWalked lines at k turns after) (sym known_is) (subst (λ (answered : List (ℕ × ℕ)). IsWalked lines at known turns answered) (sym is) walked))
 
-pub walk_step : (lines : List Line) → AllByRecursion (λ line. IsBuilt line.call) lines → (n : ℕ) (at next : Standings) (known counts : TurnCounts) (turns : List ℕ) (before after : List (ℕ × ℕ))
+pub walk_step : (lines : List Line) (n : ℕ) (at next : Standings) (known counts : TurnCounts) (turns : List ℕ) (before after : List (ℕ × ℕ))
     → IsStep lines n at known before next counts after → IsWalked lines at known turns before → IsWalked lines next counts (turns ++ n ∷ []) after
-walk_step lines built n at next known counts turns before after step walked =
+walk_step lines n at next known counts turns before after step walked =
     elim step [
       | inl s ↦ walk_is lines at next known counts (turns ++ n ∷ []) before after s.at_is s.known_is s.places (walk_idle lines at known turns before walked n s.none)
       | inr (inl s) ↦
-          walk_is lines (moved_to n (going_on (at n)) at) next known counts (turns ++ n ∷ []) before after s.at_is s.known_is s.places
-          (walk_going lines at known turns before walked n s.call s.call_is (at_last lines built n (seq_at at n) s.call s.call_is))
+          walk_is lines (moved_to n (going_on (at n)) at) next known counts (turns ++ n ∷ []) after after s.at_is s.known_is refl
+          (walk_going lines at known turns before walked n s.call s.call_is after s.places)
       | inr (inr s) ↦
-          walk_is lines (moved_to n (gone_on (at n)) at) next (with_count n (seq_at at n) ((at n).had + 1) known) counts (turns ++ n ∷ []) (before ++ (n, seq_at at n) ∷ []) after s.at_is s.known_is s.places
-          (walk_gone lines at known turns before walked n s.call s.call_is (at_last lines built n (seq_at at n) s.call s.call_is))
+          walk_is lines (moved_to n (gone_on (at n)) at) next (with_count n (seq_at at n) ((at n).had + 1) known) counts (turns ++ n ∷ []) after after s.at_is s.known_is refl
+          (walk_gone lines at known turns before walked n s.call s.call_is after s.places)
     ]
 
 -- ---- an actor's line, and its place
@@ -98,34 +69,140 @@ count_grows (line ∷ lines) (suc a) (suc b) actor low =
       | false ↦ rest
     ]
 
-pub had_limit : (origin : Meaning) (told : List Call) (lines : List Line) (history : List Entry) (place : Place) (p : Progress) → IsOnWay origin told lines history place p → had_of p < 262144
-had_limit origin told lines history place Fresh on_way = omega arith
-had_limit origin told lines history place (Read read) on_way = had_within on_way.line.call (Read read) on_way.begun
-
--- how many turns are left at most until the call of the line is answered
-abbrev pub turns_to : ℕ → Actor → ℕ
-turns_to passed actor = if nat_le actor.place.line passed then 262145 - had_of actor.progress else 0
+-- how many turns are left at most until the call of the line is through
+abbrev pub turns_to : ℕ → Table → Actor → ℕ
+turns_to passed t actor = if nat_le actor.place.line passed then turns_left actor.progress t else 0
 
 -- of the actor at a place
-abbrev pub turns_at : ℕ → ℕ → List Actor → ℕ
-turns_at passed place actors = option_map_or (turns_to passed) (slice_get actors place) 0
+abbrev pub turns_at : ℕ → ℕ → Table → List Actor → ℕ
+turns_at passed place t actors = option_map_or (turns_to passed t) (slice_get actors place) 0
 
-going_fewer : (line moved passed had next : ℕ) → next ≡ had + 1 → next < 262144 → nat_le line passed ≡ true
-    → (if nat_le moved passed then 262145 - next else 0) < (if nat_le line passed then 262145 - had else 0)
-going_fewer line moved passed had next is few left =
-    subst (λ b. (if nat_le moved passed then 262145 - next else 0) < (if b then 262145 - had else 0)) (sym left)
-    (elim (nat_le moved passed) as (λ b. (if b then 262145 - next else 0) < 262145 - had) [ true ↦ omega (arith, is, few) | false ↦ omega (arith, is, few) ])
+some_left : (p : Progress) (t : Table) → 1 ≤ turns_left p t
+some_left Fresh t = omega arith
+some_left (Read read) t = omega arith
+some_left (Strip id) t = omega arith
 
-gone_fewer : (line moved passed had next : ℕ) → nat_le moved passed ≡ false → had < 262144 → nat_le line passed ≡ true
-    → (if nat_le moved passed then 262145 - next else 0) < (if nat_le line passed then 262145 - had else 0)
-gone_fewer line moved passed had next behind few left =
-    subst (λ b. (if nat_le moved passed then 262145 - next else 0) < (if b then 262145 - had else 0)) (sym left)
-    (subst (λ b. (if b then 262145 - next else 0) < 262145 - had) (sym behind) (omega (arith, few)))
+going_fewer : (line moved passed next left : ℕ) → next < left → nat_le line passed ≡ true → (if nat_le moved passed then next else 0) < (if nat_le line passed then left else 0)
+going_fewer line moved passed next left less here =
+    subst (λ b. (if nat_le moved passed then next else 0) < (if b then left else 0)) (sym here)
+    (elim (nat_le moved passed) as (λ b. (if b then next else 0) < left) [ true ↦ less | false ↦ omega (arith, less) ])
 
--- the calls of the lines before this one were answered, and its own was or wasn't
+gone_fewer : (line moved passed next left : ℕ) → nat_le moved passed ≡ false → 1 ≤ left → nat_le line passed ≡ true → (if nat_le moved passed then next else 0) < (if nat_le line passed then left else 0)
+gone_fewer line moved passed next left behind some here =
+    subst (λ b. (if nat_le moved passed then next else 0) < (if b then left else 0)) (sym here)
+    (subst (λ b. (if b then next else 0) < left) (sym behind) (omega (arith, some)))
+
+-- ---- the turns of one call
+
+-- so many turns were enough for its entry, and it isn't through
+abbrev is_entered : Call → ℕ → Bool
+is_entered call had = not (nat_lt had (answering_turn call (had + 1)))
+
+-- the entry came behind these turns
+abbrev pub has_come : Call → ℕ → ℕ → Bool
+has_come call from had = not (is_entered call from) && is_entered call had
+
+not_entered : (call : Call) (had : ℕ) → IsAtLast call → is_entered call had ≡ false
+not_entered call had last =
+    let less : nat_lt had (had + 1) ≡ true = grind (arith, nat_tests) in
+    ap (λ n. not (nat_lt had n)) (last (had + 1)) ∙ ap (λ b. not b) less
+
+not_come : (call : Call) (from had : ℕ) → IsAtLast call → has_come call from had ≡ false
+not_come call from had last = (λ i. not (not_entered call from last i) && not_entered call had last i)
+
+come_first : (call : Call) (from had : ℕ) → IsAtFirst call → has_come call from had ≡ not (not (nat_lt from 1)) && not (nat_lt had 1)
+come_first call from had first = λ i. not (not (nat_lt from (first (from + 1) i))) && not (nat_lt had (first (had + 1) i))
+
+module _ {A : Type 0} (call : Call) (here : List A) where
+  abbrev if_here : Bool → List A
+  if_here b = if b then here else []
+
+  -- a turn behind which it goes on
+  come_going : (from had : ℕ) → from ≤ had → if_here (has_come call from had) ++ if_here (nat_eq (had + 1) (answering_turn call (had + 2))) ≡ if_here (has_come call from (had + 1))
+  come_going from had low = elim (answered_when call) [
+    | inl last ↦
+        let apart : nat_eq (had + 1) (had + 2) ≡ false = grind (arith, nat_tests) in
+        let not_now : nat_eq (had + 1) (answering_turn call (had + 2)) ≡ false = ap (λ n. nat_eq (had + 1) n) (last (had + 2)) ∙ apart in
+        (λ i. if_here (not_come call from had last i) ++ if_here (not_now i)) ∙ sym (ap (λ b. if_here b) (not_come call from (had + 1) last))
+    | inr first ↦
+        let now : nat_eq (had + 1) (answering_turn call (had + 2)) ≡ nat_eq (had + 1) 1 = ap (λ n. nat_eq (had + 1) n) (first (had + 2)) in
+        (λ i. if_here (come_first call from had first i) ++ if_here (now i)) ∙ by_turn from had low ∙ sym (ap (λ b. if_here b) (come_first call from (had + 1) first))
+  ]
+    where
+      by_turn : (from had : ℕ) → from ≤ had → if_here (not (not (nat_lt from 1)) && not (nat_lt had 1)) ++ if_here (nat_eq (had + 1) 1) ≡ if_here (not (not (nat_lt from 1)) && not (nat_lt (had + 1) 1))
+      by_turn from had low =
+          let later : nat_lt (had + 1) 1 ≡ false = grind (arith, nat_tests) in
+          elim (nat_lt had 1) as (λ b. nat_lt had 1 ≡ b → if_here (not (not (nat_lt from 1)) && not b) ++ if_here (nat_eq (had + 1) 1) ≡ if_here (not (not (nat_lt from 1)) && not (nat_lt (had + 1) 1))) [
+            | true ↦ λ none.
+                let from_none : nat_lt from 1 ≡ true = grind (arith, nat_tests, none, low) in
+                let now : nat_eq (had + 1) 1 ≡ true = grind (arith, nat_tests, none) in
+                (λ i. if_here (not (not (from_none i)) && not true) ++ if_here (now i)) ∙ sym (λ i. if_here (not (not (from_none i)) && not (later i)))
+            | false ↦ λ some.
+                let not_now : nat_eq (had + 1) 1 ≡ false = grind (arith, nat_tests, some) in
+                ap (λ b. if_here (not (not (nat_lt from 1)) && not false) ++ if_here b) not_now ∙ append-nil (if_here (not (not (nat_lt from 1)) && not false))
+                ∙ sym (ap (λ b. if_here (not (not (nat_lt from 1)) && not b)) later)
+          ] refl
+
+  -- the turn behind which it is through
+  come_gone : (from had : ℕ) → from ≤ had → if_here (has_come call from had) ++ if_here (nat_eq (had + 1) (answering_turn call (had + 1))) ≡ if_here (nat_lt from (answering_turn call (from + 1)))
+  come_gone from had low = elim (answered_when call) [
+    | inl last ↦
+        let same : nat_eq (had + 1) (had + 1) ≡ true = grind (arith, nat_tests) in
+        let now : nat_eq (had + 1) (answering_turn call (had + 1)) ≡ true = ap (λ n. nat_eq (had + 1) n) (last (had + 1)) ∙ same in
+        let more : nat_lt from (from + 1) ≡ true = grind (arith, nat_tests) in
+        (λ i. if_here (not_come call from had last i) ++ if_here (now i)) ∙ sym (ap (λ n. if_here (nat_lt from n)) (last (from + 1)) ∙ ap (λ b. if_here b) more)
+    | inr first ↦
+        let now : nat_eq (had + 1) (answering_turn call (had + 1)) ≡ nat_eq (had + 1) 1 = ap (λ n. nat_eq (had + 1) n) (first (had + 1)) in
+        (λ i. if_here (come_first call from had first i) ++ if_here (now i)) ∙ by_turn from had low ∙ sym (ap (λ n. if_here (nat_lt from n)) (first (from + 1)))
+  ]
+    where
+      by_turn : (from had : ℕ) → from ≤ had → if_here (not (not (nat_lt from 1)) && not (nat_lt had 1)) ++ if_here (nat_eq (had + 1) 1) ≡ if_here (nat_lt from 1)
+      by_turn from had low =
+          elim (nat_lt had 1) as (λ b. nat_lt had 1 ≡ b → if_here (not (not (nat_lt from 1)) && not b) ++ if_here (nat_eq (had + 1) 1) ≡ if_here (nat_lt from 1)) [
+            | true ↦ λ none.
+                let from_none : nat_lt from 1 ≡ true = grind (arith, nat_tests, none, low) in
+                let now : nat_eq (had + 1) 1 ≡ true = grind (arith, nat_tests, none) in
+                (λ i. if_here (not (not (from_none i)) && not true) ++ if_here (now i)) ∙ sym (ap (λ b. if_here b) from_none)
+            | false ↦ λ some.
+                let not_now : nat_eq (had + 1) 1 ≡ false = grind (arith, nat_tests, some) in
+                ap (λ b. if_here (not (not (nat_lt from 1)) && not false) ++ if_here b) not_now ∙ append-nil (if_here (not (not (nat_lt from 1)) && not false))
+                ∙ elim (nat_lt from 1) as (λ b. if_here (not (not b) && not false) ≡ if_here b) [ true ↦ refl | false ↦ refl ]
+          ] refl
+
+-- ---- an actor stands elsewhere, and then elsewhere again
+
+moved_self : (n : ℕ) (at : Standings) → at ≡ moved_to n (at n) at
+moved_self n at i other = each other i
+  where
+    each : (other : ℕ) → at other ≡ moved_to n (at n) at other
+    each other =
+        elim (nat_eq other n) as (λ b. nat_eq other n ≡ b → at other ≡ (if b then at n else at other)) [
+          | true ↦ λ same. ap at (same_number other n same)
+          | false ↦ λ _. refl
+        ] refl
+
+moved_twice : (n : ℕ) (s t : Standing) (at : Standings) → moved_to n s (moved_to n t at) ≡ moved_to n s at
+moved_twice n s t at i other = each other i
+  where
+    each : (other : ℕ) → moved_to n s (moved_to n t at) other ≡ moved_to n s at other
+    each other = elim (nat_eq other n) as (λ b. (if b then s else (if b then t else at other)) ≡ (if b then s else at other)) [ true ↦ refl | false ↦ refl ]
+
+-- The calls of the lines before this one are through, and its own has had so many turns since its actor stood elsewhere; its entry is
+-- there where one of these was the turn that answers it.
+pub record IsBetween (lines : List Line) (first : Standings) (counts : TurnCounts) (before : List (ℕ × ℕ)) (passed : ℕ) (line : Line) (at : Standings) (known : TurnCounts) (answered : List (ℕ × ℕ)) : Type 0 where
+  pub base : Standings
+  pub so_far : List (ℕ × ℕ)
+  pub completed : IsCompleted lines first counts before passed base known so_far
+  pub left : (base line.actor).through < line.seq
+  pub had : ℕ
+  pub more : (base line.actor).had ≤ had
+  pub at_is : at ≡ moved_to line.actor (record { through = (base line.actor).through; had = had }) base
+  pub entries : answered ≡ so_far ++ (if has_come line.call (base line.actor).had had then (line.actor, line.seq) ∷ [] else [])
+
+-- the calls of the lines before this one are through, and its own is or isn't
 abbrev pub HalfCompleted : List Line → Standings → TurnCounts → List (ℕ × ℕ) → ℕ → Line → Standings → TurnCounts → List (ℕ × ℕ) → Type 0
 HalfCompleted lines first counts before passed line at known answered =
-    ((at line.actor).through < line.seq) × IsCompleted lines first counts before passed at known answered ⊎ IsCompleted lines first counts before (passed + 1) at known answered
+    IsBetween lines first counts before passed line at known answered ⊎ IsCompleted lines first counts before (passed + 1) at known answered
 
 -- the same while the actor at a place takes its turns until the line's call is answered
 pub record IsFinishing {D : Type 0} {g : Ghosts D} (means : D → Meaning) (origin : D) (clock : ClockMeaning) (lines : List Line) (turns : List ℕ) (passed place : ℕ) (volume : Volume D g) (actors : List Actor) : Type 0 where
@@ -153,7 +230,20 @@ module _ (lines : List Line) (first : Standings) (counts : TurnCounts) (before :
   pub begins_halfway : (at : Standings) (known : TurnCounts) (answered : List (ℕ × ℕ)) → IsCompleted lines first counts before passed at known answered → IsHalfway at known answered
   begins_halfway at known answered so_far =
       elim (nat_lt (at line.actor).through line.seq) as (λ b. nat_lt (at line.actor).through line.seq ≡ b → IsHalfway at known answered) [
-        | true ↦ λ less. let less : (at line.actor).through < line.seq = grind (arith, nat_tests, less) in inl (less, so_far)
+        | true ↦ λ less.
+            let less : (at line.actor).through < line.seq = grind (arith, nat_tests, less) in
+            let had = (at line.actor).had in
+            let none : has_come line.call had had ≡ false = elim (is_entered line.call had) as (λ b. not b && b ≡ false) [ true ↦ refl | false ↦ refl ] in
+            inl (record {
+              base = at;
+              so_far = answered;
+              completed = so_far;
+              left = less;
+              had = had;
+              more = omega arith;
+              at_is = moved_self line.actor at;
+              entries = sym (ap (λ b. answered ++ (if b then (line.actor, line.seq) ∷ [] else [])) none ∙ append-nil answered);
+            })
         | false ↦ λ not_less.
             let through : line.seq ≤ (at line.actor).through = grind (arith, nat_tests, not_less) in
             inr (completed_before lines first counts before passed at known answered so_far line numbered within is through)
@@ -197,64 +287,135 @@ module _ (lines : List Line) (first : Standings) (counts : TurnCounts) (before :
       subst (λ (s : Standings). IsHalfway s counts' after) (sym at_is)
       (subst (λ (k : TurnCounts). IsHalfway at k after) (sym known_is) (subst (λ (xs : List (ℕ × ℕ)). IsHalfway at known xs) (sym same) half))
 
-  module _ (at next : Standings) (known counts' : TurnCounts) (answered after : List (ℕ × ℕ)) (less : (at line.actor).through < line.seq) where
+  none_some : {A : Type 0} (o : Option A) (x : A) → o ≡ None → o ≡ Some x → ⊥
+  none_some o x none some = cc
+
+  module _ (at : Standings) (known : TurnCounts) (answered : List (ℕ × ℕ)) (half : IsBetween lines first counts before passed line at known answered) where
+    abbrev base : Standings
+    base = half.base
+
+    abbrev had : ℕ
+    had = half.had
+
+    abbrev place : ℕ × ℕ
+    place = (line.actor, line.seq)
+
+    stood : at line.actor ≡ record { through = (base line.actor).through; had = had }
+    stood = ap (λ (s : Standings). s line.actor) half.at_is ∙ moved_own line.actor (record { through = (base line.actor).through; had = had }) base
+
+    through_is : (at line.actor).through ≡ (base line.actor).through
+    through_is = ap (λ (s : Standing). s.through) stood
+
+    had_is : (at line.actor).had ≡ had
+    had_is = ap (λ (s : Standing). s.had) stood
+
     -- its call is the actor's next one
-    next_is : IsCompleted lines first counts before passed at known answered → seq_at at line.actor ≡ line.seq
-    next_is so_far =
-        let here = seq_here lines first counts before passed at known answered so_far line numbered within is in
-        let all = so_far.all line.actor in
-        omega (arith, here, all, less)
+    base_next : line.seq ≡ (base line.actor).through + 1
+    base_next =
+        let here = seq_here lines first counts before passed base known half.so_far half.completed line numbered within is in
+        let all = half.completed.all line.actor in
+        let left = half.left in
+        omega (arith, here, all, left)
 
-    next_call : IsCompleted lines first counts before passed at known answered → call_at (calls_in lines) line.actor (seq_at at line.actor) ≡ Some line.call
-    next_call so_far = ap (call_at (calls_in lines) line.actor) (next_is so_far) ∙ own_call lines passed line line.actor numbered within is own
+    next_is : seq_at at line.actor ≡ line.seq
+    next_is = ap (λ n. n + 1) through_is ∙ sym base_next
 
-    not_yet : IsHalfway at known answered → IsCompleted lines first counts before passed at known answered
-    not_yet half =
-        elim half [
-          | inl here ↦ here.1
-          | inr done ↦
-              let all = done.all line.actor in
-              let here = seq_next in
-              absurd (omega (arith, all, here, less))
-        ]
+    next_call : call_at (calls_in lines) line.actor (seq_at at line.actor) ≡ Some line.call
+    next_call = ap (call_at (calls_in lines) line.actor) next_is ∙ own_call lines passed line line.actor numbered within is own
 
-    none_some : {A : Type 0} (o : Option A) (x : A) → o ≡ None → o ≡ Some x → ⊥
-    none_some o x none some = cc
+    call_here : (call : Call) → call_at (calls_in lines) line.actor (seq_at at line.actor) ≡ Some call → call ≡ line.call
+    call_here call call_is = some_one call line.call (sym call_is ∙ next_call)
 
-    pub goes_halfway : IsStep lines line.actor at known answered next counts' after → IsHalfway at known answered → IsHalfway next counts' after
-    goes_halfway step half =
-        let so_far = not_yet half in
-        elim step [
-          | inl s ↦ absurd (none_some (call_at (calls_in lines) line.actor (seq_at at line.actor)) line.call s.none (next_call so_far))
-          | inr (inl s) ↦
-              let moved = moved_to line.actor (going_on (at line.actor)) at in
-              let less : (moved line.actor).through < line.seq = subst (λ (k : Standing). k.through < line.seq) (sym (moved_own line.actor (going_on (at line.actor)) at)) less in
-              half_is moved next known counts' answered after s.at_is s.known_is s.places (inl (less, completed_going lines first counts before passed at known answered so_far line.actor))
-          | inr (inr s) ↦
-              half_is (moved_to line.actor (gone_on (at line.actor)) at) next (with_count line.actor (seq_at at line.actor) ((at line.actor).had + 1) known) counts'
-              (answered ++ (line.actor, line.seq) ∷ []) after s.at_is s.known_is (s.places ∙ ap (λ q. answered ++ (line.actor, q) ∷ []) (next_is so_far))
-              (inr (completed_gone lines first counts before passed at known answered so_far line numbered within is less))
-        ]
+    pub left_here : (at line.actor).through < line.seq
+    left_here = subst (λ n. n < line.seq) (sym through_is) half.left
 
-    -- fewer turns are left
-    pub turns_fewer : (actor moved : Actor) → IsStep lines line.actor at known answered next counts' after → IsHalfway at known answered → standing_of lines actor ≡ at line.actor → standing_of lines moved ≡ next line.actor
-        → number_of moved ≡ line.actor → had_of actor.progress < 262144 → had_of moved.progress < 262144 → nat_le actor.place.line passed ≡ true → turns_to passed moved < turns_to passed actor
-    turns_fewer actor moved step half stood stands number few few_moved left =
-        let so_far = not_yet half in
-        elim step [
-          | inl s ↦ absurd (none_some (call_at (calls_in lines) line.actor (seq_at at line.actor)) line.call s.none (next_call so_far))
-          | inr (inl s) ↦
-              let had : had_of moved.progress ≡ had_of actor.progress + 1 =
-              ap (λ (k : Standing). k.had) (stands ∙ ap (λ (s : Standings). s line.actor) s.at_is ∙ moved_own line.actor (going_on (at line.actor)) at) ∙ ap (λ (k : Standing). k.had + 1) (sym stood) in
-              going_fewer actor.place.line moved.place.line passed (had_of actor.progress) (had_of moved.progress) had few_moved left
-          | inr (inr s) ↦
-              let through : line.seq ≤ answered_count lines moved.place =
-              let gone = ap (λ (k : Standing). k.through) (stands ∙ ap (λ (s : Standings). s line.actor) s.at_is ∙ moved_own line.actor (gone_on (at line.actor)) at) in
-              let here = next_is so_far in
-              omega (arith, gone, here) in
-              let behind : nat_le moved.place.line passed ≡ false = behind_line moved number through in
-              gone_fewer actor.place.line moved.place.line passed (had_of actor.progress) (had_of moved.progress) behind few left
-        ]
+    -- what a turn answers of it
+    answered_here : (call : Call) (count : ℕ) → call ≡ line.call → answered_at line.actor (seq_at at line.actor) (at line.actor).had call count ≡ (if nat_eq (had + 1) (answering_turn line.call count) then place ∷ [] else [])
+    answered_here call count call_is = λ i. if nat_eq (had_is i + 1) (answering_turn (call_is i) count) then (line.actor, next_is i) ∷ [] else []
+
+    module _ (next : Standings) (counts' : TurnCounts) (after : List (ℕ × ℕ)) where
+      went : IsStepGoing lines line.actor at known answered next counts' after → IsHalfway next counts' after
+      went s =
+          let moved : Standing = record { through = (base line.actor).through; had = had + 1 } in
+          let at_is : next ≡ moved_to line.actor moved base =
+          s.at_is ∙ (λ i. moved_to line.actor (going_on (stood i)) (half.at_is i)) ∙ moved_twice line.actor moved (record { through = (base line.actor).through; had = had }) base in
+          let low = half.more in
+          let less : (at line.actor).had + 1 < had + 2 = let same = had_is in omega (arith, same) in
+          let entries : after ≡ half.so_far ++ (if has_come line.call (base line.actor).had (had + 1) then place ∷ [] else []) =
+          s.places (had + 2) less
+          ∙ (λ i. half.entries i ++ answered_here s.call (had + 2) (call_here s.call s.call_is) i)
+          ∙ append_assoc half.so_far (if has_come line.call (base line.actor).had had then place ∷ [] else []) (if nat_eq (had + 1) (answering_turn line.call (had + 2)) then place ∷ [] else [])
+          ∙ ap (λ xs. half.so_far ++ xs) (come_going line.call (place ∷ []) (base line.actor).had had low) in
+          subst (λ (k : TurnCounts). IsHalfway next k after) (sym s.known_is)
+          (inl (record {
+            base = base;
+            so_far = half.so_far;
+            completed = half.completed;
+            left = half.left;
+            had = had + 1;
+            more = omega (arith, low);
+            at_is = at_is;
+            entries = entries;
+          }))
+
+      gone_at : IsStepGone lines line.actor at known answered next counts' after → next ≡ moved_to line.actor (record { through = (base line.actor).through + 1; had = 0 }) base
+      gone_at s =
+          s.at_is ∙ (λ i. moved_to line.actor (gone_on (stood i)) (half.at_is i))
+          ∙ moved_twice line.actor (record { through = (base line.actor).through + 1; had = 0 }) (record { through = (base line.actor).through; had = had }) base
+
+      ended : IsStepGone lines line.actor at known answered next counts' after → IsHalfway next counts' after
+      ended s =
+          let low = half.more in
+          let known_is : counts' ≡ with_count line.actor (seq_at base line.actor) (had + 1) known = s.known_is ∙ (λ i. with_count line.actor (through_is i + 1) (had_is i + 1) known) in
+          let ahead : is_ahead base line ≡ nat_lt (base line.actor).had (answering_turn line.call ((base line.actor).had + 1)) = ahead_next (base line.actor) line base_next in
+          let entries : after ≡ half.so_far ++ (if is_ahead base line then place ∷ [] else []) =
+          s.places
+          ∙ (λ i. half.entries i ++ answered_here s.call ((at line.actor).had + 1) (call_here s.call s.call_is) i)
+          ∙ ap (λ n. (half.so_far ++ (if has_come line.call (base line.actor).had had then place ∷ [] else [])) ++ (if nat_eq (had + 1) (answering_turn line.call (n + 1)) then place ∷ [] else [])) had_is
+          ∙ append_assoc half.so_far (if has_come line.call (base line.actor).had had then place ∷ [] else []) (if nat_eq (had + 1) (answering_turn line.call (had + 1)) then place ∷ [] else [])
+          ∙ ap (λ xs. half.so_far ++ xs) (come_gone line.call (place ∷ []) (base line.actor).had had low)
+          ∙ sym (ap (λ b. half.so_far ++ (if b then place ∷ [] else [])) ahead) in
+          half_is (moved_to line.actor (record { through = (base line.actor).through + 1; had = 0 }) base) next (with_count line.actor (seq_at base line.actor) (had + 1) known) counts'
+          (half.so_far ++ (if is_ahead base line then place ∷ [] else [])) after (gone_at s) known_is entries
+          (inr (completed_gone lines first counts before passed base known half.so_far half.completed line numbered within is had low half.left))
+
+      pub goes_halfway : IsStep lines line.actor at known answered next counts' after → IsHalfway next counts' after
+      goes_halfway step =
+          elim step [
+            | inl s ↦ absurd (none_some (call_at (calls_in lines) line.actor (seq_at at line.actor)) line.call s.none next_call)
+            | inr (inl s) ↦ went s
+            | inr (inr s) ↦ ended s
+          ]
+
+      -- a step behind which no call of it is on its way brings it behind the line
+      at_rest : (moved : Actor) → IsStep lines line.actor at known answered next counts' after → StandsAt lines moved (next line.actor) → (next line.actor).had ≡ 0 → number_of moved ≡ line.actor → nat_le moved.place.line passed ≡ false
+      at_rest moved step stands none number =
+          elim step [
+            | inl s ↦ absurd (none_some (call_at (calls_in lines) line.actor (seq_at at line.actor)) line.call s.none next_call)
+            | inr (inl s) ↦
+                let had : (next line.actor).had ≡ (at line.actor).had + 1 = ap (λ (s : Standings). (s line.actor).had) s.at_is ∙ ap (λ (s : Standing). s.had) (moved_own line.actor (going_on (at line.actor)) at) in
+                absurd (omega (arith, had, none))
+            | inr (inr s) ↦
+                let gone : (next line.actor).through ≡ (base line.actor).through + 1 =
+                ap (λ (s : Standings). (s line.actor).through) (gone_at s) ∙ ap (λ (s : Standing). s.through) (moved_own line.actor (record { through = (base line.actor).through + 1; had = 0 }) base) in
+                let here = base_next in
+                let same = stands.through in
+                behind_line moved number (omega (arith, gone, here, same))
+          ]
+
+      -- fewer turns are left
+      pub turns_fewer : (actor moved : Actor) (t later : Table) → IsStep lines line.actor at known answered next counts' after → StandsAt lines moved (next line.actor) → number_of moved ≡ line.actor → HasFewer actor t moved later
+          → nat_le actor.place.line passed ≡ true → turns_to passed later moved < turns_to passed t actor
+      turns_fewer actor moved t later step stands number fewer low = by moved.progress refl
+        where
+          by : (p : Progress) → moved.progress ≡ p → turns_to passed later moved < turns_to passed t actor
+          by Fresh is =
+              gone_fewer actor.place.line moved.place.line passed (turns_left moved.progress later) (turns_left actor.progress t) (at_rest moved step stands (subst (λ p. HasHad p (next line.actor).had) is stands.had) number)
+              (some_left actor.progress t) low
+          by (Read read) is =
+              going_fewer actor.place.line moved.place.line passed (turns_left moved.progress later) (turns_left actor.progress t) (subst (λ p. OnWay p (turns_left moved.progress later < turns_left actor.progress t)) is fewer) low
+          by (Strip id) is =
+              going_fewer actor.place.line moved.place.line passed (turns_left moved.progress later) (turns_left actor.progress t) (subst (λ p. OnWay p (turns_left moved.progress later < turns_left actor.progress t)) is fewer) low
 
 is_low : (m n : ℕ) → m ≤ n → nat_le m n ≡ true
 is_low m n h = grind (arith, nat_tests)
@@ -300,8 +461,8 @@ module _ {D : Type 0} {g : Ghosts D} (means : D → Meaning) (origin : D) (clock
     number : number_of actor ≡ way.line.actor
     number = player.number_is ∙ way.place_is
 
-    stood : standing_of lines actor ≡ way.at way.line.actor
-    stood = player.standing ∙ ap way.at way.place_is
+    through_here : (way.at way.line.actor).through ≡ answered_count lines actor.place
+    through_here = ap (λ n. (way.at n).through) (sym way.place_is) ∙ player.standing.through
 
     pub finish_ends : passed < actor.place.line → AreFinished means origin clock lines turns (passed + 1) volume actors
     finish_ends past = record {
@@ -314,10 +475,10 @@ module _ {D : Type 0} {g : Ghosts D} (means : D → Meaning) (origin : D) (clock
       known = way.known;
       under_way = way.under_way;
       completed = elim way.half [
-        | inl not_yet ↦
+        | inl between ↦
             let through = past_line lines way.first way.counts way.before passed way.line numbered inside here actor number past in
-            let same : answered_count lines actor.place ≡ (way.at way.line.actor).through = ap (λ (k : Standing). k.through) stood in
-            let less = not_yet.0 in
+            let same = through_here in
+            let less = left_here lines way.first way.counts way.before passed way.line numbered inside here way.at way.known (places_of (history_of volume)) between in
             absurd (omega (arith, through, same, less))
         | inr done ↦ done
       ];
@@ -327,8 +488,17 @@ module _ {D : Type 0} {g : Ghosts D} (means : D → Meaning) (origin : D) (clock
       less : (way.at way.line.actor).through < way.line.seq
       less =
           let before = before_line lines way.first way.counts way.before passed way.line numbered inside here actor number low in
-          let same : answered_count lines actor.place ≡ (way.at way.line.actor).through = ap (λ (k : Standing). k.through) stood in
+          let same = through_here in
           omega (arith, before, same)
+
+      between : IsBetween lines way.first way.counts way.before passed way.line way.at way.known (places_of (history_of volume))
+      between = elim way.half [
+        | inl it ↦ it
+        | inr done ↦
+            let all = done.all way.line.actor in
+            let here = seq_next lines way.first way.counts way.before passed way.line numbered inside here in
+            absurd (omega (arith, all, here, less))
+      ]
 
       step : IsStep lines way.line.actor way.at way.known (places_of (history_of volume)) stepped.next stepped.counts (places_of (history_of after))
       step = subst (λ n. IsStep lines n way.at way.known (places_of (history_of volume)) stepped.next stepped.counts (places_of (history_of after))) way.place_is stepped.step
@@ -347,25 +517,22 @@ module _ {D : Type 0} {g : Ghosts D} (means : D → Meaning) (origin : D) (clock
         at = stepped.next;
         known = stepped.counts;
         under_way = stepped.under_way;
-        half = goes_halfway lines way.first way.counts way.before passed way.line numbered inside here way.at stepped.next way.known stepped.counts (places_of (history_of volume)) (places_of (history_of after)) less step way.half;
+        half = goes_halfway lines way.first way.counts way.before passed way.line numbered inside here way.at way.known (places_of (history_of volume)) between stepped.next stepped.counts (places_of (history_of after)) step;
       }
 
-      pub finish_fewer : (next : Actor) → slice_get moved place ≡ Some next → turns_to passed next < turns_to passed actor
-      finish_fewer next is =
-          let behind = stepped.under_way.played.players place next is in
-          let left = is_low actor.place.line passed low in
-          turns_fewer lines way.first way.counts way.before passed way.line numbered inside here way.at stepped.next way.known stepped.counts (places_of (history_of volume)) (places_of (history_of after)) less
-          actor next step way.half stood (behind.standing ∙ ap stepped.next way.place_is) (behind.number_is ∙ way.place_is)
-          (had_limit (means origin) (answered_by_now volume).told lines (history_of volume) actor.place actor.progress player.stands.on_way)
-          (had_limit (means origin) (answered_by_now after).told lines (history_of after) next.place next.progress behind.stands.on_way)
-          left
+      module _ (fewer : (next : Actor) → slice_get moved place ≡ Some next → HasFewer actor (table_of volume) next (table_of after)) where
+        finish_fewer : (next : Actor) → slice_get moved place ≡ Some next → turns_to passed (table_of after) next < turns_to passed (table_of volume) actor
+        finish_fewer next is =
+            let behind = stepped.under_way.played.players place next is in
+            turns_fewer lines way.first way.counts way.before passed way.line numbered inside here way.at way.known (places_of (history_of volume)) between stepped.next stepped.counts (places_of (history_of after))
+            actor next (table_of volume) (table_of after) step (subst (λ n. StandsAt lines next (stepped.next n)) way.place_is behind.standing) (behind.number_is ∙ way.place_is) (fewer next is) (is_low actor.place.line passed low)
 
-      pub finish_smaller : turns_at passed place moved < turns_at passed place actors
-      finish_smaller =
-          let played = stepped.under_way.played in
-          let many = played.many in
-          let limit = way.limit in
-          let next = get_or moved place actor in
-          let there_next : slice_get moved place ≡ Some next = slice_get-get_or moved place actor (omega (arith, many, limit)) in
-          subst (λ n. n < turns_at passed place actors) (sym (ap (λ o. option_map_or (turns_to passed) o 0) there_next))
-          (subst (λ n. turns_to passed next < n) (sym (ap (λ o. option_map_or (turns_to passed) o 0) there)) (finish_fewer next there_next))
+        pub finish_smaller : turns_at passed place (table_of after) moved < turns_at passed place (table_of volume) actors
+        finish_smaller =
+            let played = stepped.under_way.played in
+            let many = played.many in
+            let limit = way.limit in
+            let next = get_or moved place actor in
+            let there_next : slice_get moved place ≡ Some next = slice_get-get_or moved place actor (omega (arith, many, limit)) in
+            subst (λ n. n < turns_at passed place (table_of volume) actors) (sym (ap (λ o. option_map_or (turns_to passed (table_of after)) o 0) there_next))
+            (subst (λ n. turns_to passed (table_of after) next < n) (sym (ap (λ o. option_map_or (turns_to passed (table_of volume)) o 0) there)) (finish_fewer next there_next))

@@ -9,7 +9,6 @@ use Rattle.ck_model.specs.declared.entry.Entry.{Entry}
 use Rattle.ck_model.specs.History.{call_at, calls_of}
 use Rattle.ck_script.specs.declared.line.Line.{Line}
 use Rattle.ck_script.specs.Numbered.{calls_in}
-use Rattle.ck_files.specs.Built.{IsBuilt}
 use Rattle.ck_volume.specs.TopCuts.{synced_count}
 use Rattle.ck_volume.specs.Volume.{committed_of, history_of, room_of, KeepsLog}
 use Rattle.ck_volume.specs.declared.volume.Volume.{Volume}
@@ -52,10 +51,10 @@ module _ {D : Type 0} {g : Ghosts D} (means : D → Meaning) (origin : D) (clock
           (walk_idle lines so_far.at so_far.known turns (places_of (history_of volume)) so_far.walked 0 (background_call lines (so_far.at 0).through among));
     }
 
-    pub own_turned : AllByRecursion (λ line. IsBuilt line.call) lines → (n : ℕ) (moved : List Actor) → HasStepped means origin clock lines n so_far.at so_far.known volume after moved → AreTurned means origin clock lines (turns ++ n ∷ []) after moved
-    own_turned built n moved stepped = record {
+    pub own_turned : (n : ℕ) (moved : List Actor) → HasStepped means origin clock lines n so_far.at so_far.known volume after moved → AreTurned means origin clock lines (turns ++ n ∷ []) after moved
+    own_turned n moved stepped = record {
       at = stepped.next;
       known = stepped.counts;
       under_way = stepped.under_way;
-      walked = walk_step lines built n so_far.at stepped.next so_far.known stepped.counts turns (places_of (history_of volume)) (places_of (history_of after)) stepped.step so_far.walked;
+      walked = walk_step lines n so_far.at stepped.next so_far.known stepped.counts turns (places_of (history_of volume)) (places_of (history_of after)) stepped.step so_far.walked;
     }

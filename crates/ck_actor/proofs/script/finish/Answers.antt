@@ -88,6 +88,7 @@ loop-alloc-smaller g c =
     (c.take_own.ensures.stepped way.at way.known
     (way_from g.D.Disk.means (origin_of c.args.volume.now) (origin_of volume) (g.C.Clock.means c.args.clock.now) (g.C.Clock.means c.loop-alloc.clock) script.calls volume actors way.at way.known (sym way.under_way.origin_is) (sym inv.clock) way.under_way)) in
     finish_smaller g.D.Disk.means (origin_of c.args.volume.now) (g.C.Clock.means c.args.clock.now) script.calls script.turns c.args.line place script.numbered volume actors actor there way low after c.take_own.new.actors stepped
+    (λ next is. c.take_own.ensures.fewer actor next there is)
 
 pub loop-alloc-preserved : goal.loop-alloc-preserved
 loop-alloc-preserved g c =

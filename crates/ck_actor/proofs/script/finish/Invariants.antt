@@ -1,5 +1,5 @@
 use Rattle.std.proofs.Common.{◌≡◌}
-use Rattle.ck_volume.specs.Volume.{origin_of}
+use Rattle.ck_volume.specs.Volume.{origin_of, table_of}
 use Rattle.ck_actor.proofs.StepLemmas.{turns_at, IsFinishing}
 use Rattle.ck_actor.proofs.script.finish.Given as goal
 
@@ -10,4 +10,4 @@ invariant-loop-alloc g l = record {
 }
 
 abbrev pub decreases-loop-alloc : goal.decreases-loop-alloc
-decreases-loop-alloc g l = turns_at l.line l.place l.actors
+decreases-loop-alloc g l = turns_at l.line l.place (table_of l.volume) l.actors

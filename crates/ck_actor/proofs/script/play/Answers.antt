@@ -43,7 +43,7 @@ returns-clause-moments g c =
     (subst (λ (m : ClockMeaning). P m (history_of c.finish_all.new.volume)) c.take_all.ensures.clock c.finish_all.ensures.finished.under_way.played.moments)
 
 pub returns-clause-drained : goal.returns-clause-drained
-returns-clause-drained g c = λ none. c.drain.ensures.none (sym c.drain.ensures.log.broken ∙ none)
+returns-clause-drained g c = λ none. c.drain.ensures.drained (sym c.drain.ensures.log.broken ∙ none)
 
 pub returns-clause-follows : goal.returns-clause-follows
 returns-clause-follows g c =
@@ -54,4 +54,4 @@ returns-clause-follows g c =
     let origin : origin_of before ≡ origin_of c.args.volume.now = c.take_all.ensures.turned.under_way.origin_is ∙ c.reserve.ensures.origin in
     subst (λ (es : List Entry). IsTrue (means (origin_of c.args.volume.now)).tells → (w : World) → Recovers (means (origin_of c.args.volume.now)).shows w → (texts : Texts) → Follows texts (parsed script) w es) (sym c.drain.ensures.log.history)
     (subst (λ (d : g.row.D.Denot). IsTrue (means d).tells → (w : World) → Recovers (means d).shows w → (texts : Texts) → Follows texts (parsed script) w (history_of after)) origin
-    (whole_follows means (origin_of before) (g.C.Clock.means c.take_all.new.clock) script.calls script.turns after c.finish_all.new.actors c.finish_all.ensures.finished c.requires.built))
+    (whole_follows means (origin_of before) (g.C.Clock.means c.take_all.new.clock) script.calls script.turns after c.finish_all.new.actors c.finish_all.ensures.finished))

@@ -31,5 +31,5 @@ returns-else-number-eq0-clause-turned g c =
     let is : get_or script.turns at 0 ≡ suc (number - 1) = ap (λ (xs : List ℕ). get_or xs at 0) (sym c.items.ensures) ∙ some in
     let more : list_take (at + 1) script.turns ≡ list_take at script.turns ++ suc (number - 1) ∷ [] = take_more script.turns at 0 c.requires.within ∙ ap (λ n. list_take at script.turns ++ n ∷ []) is in
     subst (λ turns. AreTurned g.D.Disk.means origin clock script.calls turns c.take_own.new.volume c.take_own.new.actors) (sym more)
-    (own_turned g.D.Disk.means origin clock script.calls c.args.volume.now c.take_own.new.volume (list_take at script.turns) c.args.actors.now so_far c.requires.built (suc (number - 1)) c.take_own.new.actors
+    (own_turned g.D.Disk.means origin clock script.calls c.args.volume.now c.take_own.new.volume (list_take at script.turns) c.args.actors.now so_far (suc (number - 1)) c.take_own.new.actors
     (c.take_own.ensures.stepped so_far.at so_far.known so_far.under_way))
