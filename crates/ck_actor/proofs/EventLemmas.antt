@@ -1,17 +1,19 @@
 -- What an event of a volume does to the call of an actor's line.
-use Rattle.std.proofs.Common.{◌≡◌, ◌≢◌, ◌≤◌, ◌<◌, ◌⊎◌, inl, inr, ℕ, ◌+◌, ◌-◌, true, false, Bool, Option, None, List, [], ◌∷◌, ◌++◌, if◌then◌else◌, refl, sym, ap, subst, ◌∙◌, arith}
+use Rattle.std.proofs.Common.{◌≡◌, ◌≢◌, ◌≤◌, ◌<◌, ◌⊎◌, inl, inr, ℕ, ◌+◌, ◌-◌, true, false, Option, Some, List, [], ◌∷◌, ◌++◌, length, if◌then◌else◌, refl, sym, ap, subst, ◌∙◌, arith}
+use Rattle.std.specs.List.{AllByRecursion}
 use Rattle.std.specs.FinMap as map
 use Rattle.ck_disk.specs.Disk.{Meaning}
 use Rattle.ck_disk.specs.declared.disk.Disk.{Ghosts}
 use Rattle.ck_model.specs.declared.call.Call.{Call}
 use Rattle.ck_model.specs.declared.call.Call.TheVariants.{Cread, Nodata}
+use Rattle.ck_model.specs.declared.entry.Entry.{Entry}
 use Rattle.ck_model.specs.declared.reply.Reply.{Reply}
 use Rattle.ck_model.specs.declared.reply.Reply.TheVariants.{Done}
 use Rattle.ck_model.specs.Key.{entry_cmp_exact, entry_cmp_total}
 use Rattle.ck_model.specs.Table.{Table}
 use Rattle.ck_model.proofs.SizeLaws.{len-retain_keys-le}
 use Rattle.ck_read.specs.declared.progress.ReadProgress.{ReadProgress}
-use Rattle.ck_model.specs.History.{reply_number}
+use Rattle.ck_model.specs.History.{CallsBy, reply_number}
 use Rattle.ck_nodata.specs.StripItem.{is_unstripped, unstripped_count}
 use Rattle.ck_table.specs.Flags.{with_nodata}
 use Rattle.ck_volume.specs.declared.event.Progress.{Progress}
@@ -22,13 +24,18 @@ use Rattle.ck_volume.specs.Causes.{acknowledges}
 use Rattle.ck_volume.specs.Conversion.{ConvertsBy}
 use Rattle.ck_volume.specs.Event.{newest, IsEntryOf}
 use Rattle.ck_volume.specs.Progress.{had_of, IsBegunFor, IsOfCall, IsSynchronous}
+use Rattle.ck_volume.specs.Told.{AreAnswered}
+use Rattle.ck_volume.specs.TopCuts.{synced_count}
 use Rattle.ck_volume.specs.Turn.{GoesOn, OnEntry, OnReading, OnStrip, StripsOn}
 use Rattle.ck_volume.specs.Volume.{committed_of, history_of, length_of, room_of, table_of, told_of, KeepsLog}
 use Rattle.ck_volume.proofs.FitsLaws.{had_within}
+use Rattle.ck_volume.proofs.ToldLaws.{answered-more}
+use Rattle.ck_volume.proofs.TopCutsLaws.{synced-step}
 use Rattle.ck_actor.specs.declared.place.Place.{Place}
 use Rattle.ck_actor.specs.Actor.{entered_line, turns_left, HasHad, OnWay}
 use Rattle.ck_actor.specs.Counts.{Takes}
 use Rattle.ck_actor.specs.Turns.{answering_turn}
+use Rattle.ck_actor.proofs.ActorLemmas.{all_more, longer}
 use Rattle.ck_actor.proofs.TurnLemmas.{answered_when, IsAtFirst, IsAtLast}
 
 -- ---- which calls go on
@@ -212,3 +219,51 @@ module _ {D : Type 0} {g : Ghosts D} (means : D → Meaning) (before after : Vol
   answered_did Fresh begun strips added room entry told committed = inr (record { added = added; room = room; entry = entry; told = told; committed = committed }, begun_answers call)
   answered_did (Read read) begun strips added room entry told committed = inr (record { added = added; room = room; entry = entry; told = told; committed = committed }, read_answers call read begun)
   answered_did (Strip id) begun strips added room entry told committed = inl (strips.log, strip_ends call id begun)
+
+-- ---- the entries and commits of a volume behind an event
+
+module _ {D : Type 0} {g : Ghosts D} (before after : Volume D g) (actor seq at : ℕ) (call : Call) where
+  -- no entry came, or its own
+  abbrev pub Did : Type 0 → Type 0 → Type 0
+  Did X Y = (KeepsLog before after × X) ⊎ (HasEntry before after actor seq at call × Y)
+
+  module _ {X Y : Type 0} (did : Did X Y) where
+    pub did_room : room_of after + length (history_of after) ≡ room_of before + length (history_of before)
+    did_room = elim did [
+      | inl it ↦ (λ i. it.0.room i + length (it.0.history i))
+      | inr it ↦
+          let many : length (history_of after) ≡ length (history_of before) + 1 = ap (λ (es : List Entry). length es) it.0.added ∙ longer (history_of before) (newest (history_of after)) in
+          let room = it.0.room in
+          omega (arith, room, many)
+    ]
+
+    pub did_moments : AllByRecursion (λ (entry : Entry). entry.at ≡ at) (history_of before) → AllByRecursion (λ (entry : Entry). entry.at ≡ at) (history_of after)
+    did_moments so_far = elim did [
+      | inl it ↦ subst (λ (es : List Entry). AllByRecursion (λ (entry : Entry). entry.at ≡ at) es) (sym it.0.history) so_far
+      | inr it ↦
+          subst (λ (es : List Entry). AllByRecursion (λ (entry : Entry). entry.at ≡ at) es) (sym it.0.added)
+          (all_more (λ entry. entry.at ≡ at) (history_of before) (newest (history_of after)) so_far it.0.entry.at_is)
+    ]
+
+    module _ (calls : CallsBy) (here : calls actor seq ≡ Some call) where
+      called : HasEntry before after actor seq at call → calls (newest (history_of after)).actor (newest (history_of after)).seq ≡ Some call
+      called it = (λ i. calls (it.entry.actor_is i) (it.entry.seq_is i)) ∙ here
+
+      pub did_answered : AreAnswered calls (told_of before) (history_of before) → AreAnswered calls (told_of after) (history_of after)
+      did_answered so_far = elim did [
+        | inl it ↦
+            subst (λ (told : List Call). AreAnswered calls told (history_of after)) (sym it.0.told) (subst (λ (es : List Entry). AreAnswered calls (told_of before) es) (sym it.0.history) so_far)
+        | inr it ↦
+            subst (λ (told : List Call). AreAnswered calls told (history_of after)) (sym it.0.told)
+            (subst (λ (es : List Entry). AreAnswered calls (told_of before ++ call ∷ []) es) (sym it.0.added)
+            (answered-more calls (told_of before) call (history_of before) (newest (history_of after)) so_far (called it.0)))
+      ]
+
+      pub did_synced : synced_count calls (history_of before) ≤ committed_of before → synced_count calls (history_of after) ≤ committed_of after
+      did_synced low = elim did [
+        | inl it ↦
+            subst (λ (n : ℕ). synced_count calls (history_of after) ≤ n) (sym it.0.committed) (subst (λ (es : List Entry). synced_count calls es ≤ committed_of before) (sym it.0.history) low)
+        | inr it ↦
+            synced-step calls (history_of before) (history_of after) (newest (history_of after)) call (committed_of before) (committed_of after) (called it.0) it.0.added
+            (ap (λ (es : List Entry). length es) it.0.added ∙ longer (history_of before) (newest (history_of after))) it.0.committed low
+      ]

@@ -4,6 +4,7 @@ pub mod PlaceLemmas
 pub mod LeftLemmas
 pub mod ActorLemmas
 pub mod EventLemmas
+pub mod StandingLemmas
 pub mod WorkedScripts
 pub mod PlayedLemmas
 pub mod StepLemmas

@@ -41,7 +41,7 @@ use Rattle.ck_actor.proofs.TurnLemmas.{agreed-going, agreed-gone, going-count, g
 
 -- ---- one element of a list is another
 
-get_same : {A : Type 0} (xs : List A) (i : ℕ) (x : A) → i < length xs → slice_get (set xs i x) i ≡ Some x
+pub get_same : {A : Type 0} (xs : List A) (i : ℕ) (x : A) → i < length xs → slice_get (set xs i x) i ≡ Some x
 get_same [] i x within = absurd (omega (arith, within))
 get_same (y ∷ xs) zero x within = refl
 get_same (y ∷ xs) (suc i) x within = get_same xs i x (omega (arith, within))

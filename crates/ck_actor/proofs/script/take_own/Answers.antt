@@ -1,12 +1,11 @@
-use Rattle.std.proofs.Common.{◌≡◌, ◌<◌, List, length, get_or, ap, subst, ◌∙◌, arith}
-use Rattle.std.proofs.lemmas.Option.{slice_get-get_or}
+use Rattle.std.proofs.Common.{◌≡◌, ◌<◌, suc, List, length, get_or, ap, sym, subst, ◌∙◌, arith}
 use Rattle.ck_disk.specs.Disk.{Meaning}
 use Rattle.ck_io.specs.Clock.{ClockMeaning}
-use Rattle.ck_volume.specs.Volume.{history_of, origin_of, room_of, told_of}
+use Rattle.ck_volume.specs.Volume.{history_of, origin_of, room_of, table_of, told_of}
 use Rattle.ck_actor.specs.declared.actor.Actor.{Actor}
-use Rattle.ck_actor.specs.Actor.{HasMoment, Stands}
-use Rattle.ck_actor.specs.Turned.{answered_by_now}
-use Rattle.ck_actor.proofs.PlayedLemmas.{actor_there, own_player, own_room, turned}
+use Rattle.ck_actor.specs.Actor.{HasFewer, HasMoment, Stands}
+use Rattle.ck_actor.specs.Turned.{answered_by_now, IsTurnFrom}
+use Rattle.ck_actor.proofs.PlayedLemmas.{actor_there, get_same, own_player, own_room, some_one, turned}
 use Rattle.ck_actor.proofs.script.take_own.Goals as goal
 
 pub turn-requires-clause-stands : goal.turn-requires-clause-stands
@@ -46,13 +45,13 @@ returns-clause-stepped g c = λ at known way.
     let many : length actors ≡ 64 = played.many in
     let limit : place < 64 = c.requires.within in
     let within : place < length actors = omega (arith, many, limit) in
-    let there = actor_there origin clock lines actors at known (answered_by_now volume) (room_of volume) played place limit default in
     let player = own_player origin clock lines actors at known (answered_by_now volume) (room_of volume) played place limit default in
     let stands : Stands origin (told_of after) lines (history_of after) moved = subst (λ o. Stands (g.D.Disk.means o) (told_of after) lines (history_of after) moved) ensures.origin ensures.stands in
     let moment : HasMoment clock moved = subst (λ (m : ClockMeaning). HasMoment m moved) ensures.clock ensures.moment in
     let it =
     turned origin clock lines actors place moved within at known (answered_by_now volume) (answered_by_now after) (room_of volume) (room_of after) played (ensures.number ∙ player.number_is) stands moment ensures.room limit
-    (ensures.answered played.answered) (λ told. ensures.moments told (played.moments told)) (get_or actors place default) there ensures.turn in
+    (ensures.answered played.answered) (λ told. ensures.moments told (played.moments told))
+    (subst (λ n. IsTurnFrom origin lines n (at (suc place)) moved (answered_by_now volume) (answered_by_now after)) player.number_is (ensures.turn (at (suc place)) player.standing)) in
     record {
       next = it.next;
       counts = it.counts;
@@ -64,3 +63,20 @@ returns-clause-stepped g c = λ at known way.
       };
       step = it.step;
     }
+
+pub returns-clause-fewer : goal.returns-clause-fewer
+returns-clause-fewer g c = λ was moved is is_moved.
+    let volume = c.args.volume.now in
+    let after = c.turn.new.volume in
+    let way = c.requires.under_way in
+    let actors : List Actor = c.args.actors.now in
+    let place = c.args.place in
+    let default = c.index-actors-place.result in
+    let many : length actors ≡ 64 = way.under_way.played.many in
+    let limit : place < 64 = c.requires.within in
+    let within : place < length actors = omega (arith, many, limit) in
+    let there = actor_there (g.D.Disk.means (origin_of volume)) (g.C.Clock.means c.args.clock.now) c.args.script.now.calls actors way.at way.known (answered_by_now volume) (room_of volume) way.under_way.played place limit default in
+    let own : get_or actors place default ≡ was = some_one (get_or actors place default) was (sym there ∙ is) in
+    let turned : c.turn.new.self ≡ moved = some_one c.turn.new.self moved (sym (get_same actors place c.turn.new.self within) ∙ is_moved) in
+    subst (λ (a : Actor). HasFewer a (table_of volume) moved (table_of after)) own
+    (subst (λ (a : Actor). HasFewer (get_or actors place default) (table_of volume) a (table_of after)) turned c.turn.ensures.fewer)
