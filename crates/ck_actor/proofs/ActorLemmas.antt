@@ -172,6 +172,17 @@ found_here origin told lines history place (Strip id) on_way = record {
   own = subst (λ found. IfSome found (λ line. line.actor ≡ place.actor)) (sym on_way.line_is) on_way.own;
 }
 
+-- at the end none is on its way
+pub at_end_rests : (origin : Meaning) (told : List Call) (lines : List Line) (history : List Entry) (place : Place) (progress : Progress) (X : Type 0) → length lines ≤ place.line → IsOnWay origin told lines history place progress → OnWay progress X
+at_end_rests origin told lines history place Fresh X past on_way = tt
+at_end_rests origin told lines history place (Read read) X past on_way = absurd (none_some (slice_get lines place.line) on_way.line (slice_get_past lines place.line past) on_way.line_is)
+at_end_rests origin told lines history place (Strip id) X past on_way = absurd (none_some (slice_get lines place.line) on_way.line (slice_get_past lines place.line past) on_way.line_is)
+
+pub is_fresh : (origin : Meaning) (told : List Call) (lines : List Line) (history : List Entry) (place : Place) (progress : Progress) → length lines ≤ place.line → IsOnWay origin told lines history place progress → progress ≡ Fresh
+is_fresh origin told lines history place Fresh past on_way = refl
+is_fresh origin told lines history place (Read read) past on_way = absurd (none_some (slice_get lines place.line) on_way.line (slice_get_past lines place.line past) on_way.line_is)
+is_fresh origin told lines history place (Strip id) past on_way = absurd (none_some (slice_get lines place.line) on_way.line (slice_get_past lines place.line past) on_way.line_is)
+
 pub on_way_still : (origin : Meaning) (told : List Call) (lines : List Line) (history : List Entry) (place next : Place) (progress : Progress) → OnWay progress (next ≡ place) → IsOnWay origin told lines history place progress
     → IsOnWay origin told lines history next progress
 on_way_still origin told lines history place next Fresh same on_way = tt

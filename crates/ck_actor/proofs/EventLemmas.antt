@@ -267,3 +267,7 @@ module _ {D : Type 0} {g : Ghosts D} (before after : Volume D g) (actor seq at :
             synced-step calls (history_of before) (history_of after) (newest (history_of after)) call (committed_of before) (committed_of after) (called it.0) it.0.added
             (ap (λ (es : List Entry). length es) it.0.added ∙ longer (history_of before) (newest (history_of after))) it.0.committed low
       ]
+
+  pub did_fewer : (was now : Progress) → Did (TakesOn call was (table_of before) now (table_of after)) (Enters call (newest (history_of after)).reply was (table_of before) now (table_of after))
+      → OnWay now (turns_left now (table_of after) < turns_left was (table_of before))
+  did_fewer was now did = elim did [ | inl it ↦ it.1.fewer | inr it ↦ it.1.fewer ]

@@ -119,6 +119,12 @@ own_call lines at line actor numbered within is own =
     ∙ ap (λ xs. slice_get xs (length before)) (calls_around lines at line actor within is own)
     ∙ get_here before line.call (calls_of (calls_in (drop (suc at) lines)) actor)
 
+pub line_call : (lines : List Line) (at : ℕ) (line : Line) → IsNumbered lines → at < length lines → line ≡ get_or lines at line → call_at (calls_in lines) line.actor line.seq ≡ Some line.call
+line_call lines at line numbered within is = own_call lines at line line.actor numbered within is itself
+  where
+    itself : nat_eq line.actor line.actor ≡ true
+    itself = grind (arith, nat_tests)
+
 -- ---- the end
 
 -- no call is left exactly where the place is the end

@@ -14,10 +14,11 @@ use Rattle.ck_script.specs.Numbered.{calls_in, numbers_in, IsNumbered}
 use Rattle.ck_files.specs.Built.{IsBuilt}
 use Rattle.ck_volume.specs.declared.event.Progress.{Progress}
 use Rattle.ck_volume.specs.declared.event.Progress.TheVariants.{Fresh, Read, Strip}
+use Rattle.ck_volume.specs.declared.event.Turn.TheVariants.{Answered}
 use Rattle.ck_volume.specs.declared.volume.Volume.{Volume}
 use Rattle.ck_volume.specs.Event.{newest}
 use Rattle.ck_volume.specs.Progress.{had_of, FitsHistory, IsBegunFor, IsLastOf}
-use Rattle.ck_volume.specs.Turn.{entries_had}
+use Rattle.ck_volume.specs.Turn.{entries_had, OnEntry, OnStrip}
 use Rattle.ck_volume.specs.Volume.{history_of, origin_of, table_of, told_of, KeepsLog}
 use Rattle.ck_actor.specs.declared.actor.Actor.{Actor}
 use Rattle.ck_actor.specs.declared.place.Place.{Place}
@@ -38,6 +39,12 @@ entered_so_far lines place line (Strip id) numbered within is own =
     let number = own_number lines place.line line place.actor numbered within is own in
     let more = ap (λ (numbers : List ℕ). length numbers) (own_line lines place.line line place.actor within is own) ∙ lengthen (numbers_in (take place.line lines) place.actor) line.seq in
     omega (arith, number, more)
+
+-- what a call's entry says where it didn't strip
+entry_there : (was now : Progress) (X : Type 0) → OnStrip was (λ id. ⊥) → OnEntry was Answered now X → X
+entry_there Fresh now X none x = x
+entry_there (Read read) now X none x = x
+entry_there (Strip id) now X none x = absurd none
 
 module _ {D : Type 0} {g : Ghosts D} (means : D → Meaning) (before after : Volume D g) (lines : List Line) (actor : Actor) (line : Line)
     (numbered : IsNumbered lines) (within : actor.place.line < length lines) (is : line ≡ get_or lines actor.place.line line) (own : nat_eq line.actor actor.place.actor ≡ true)
@@ -150,9 +157,9 @@ module _ {D : Type 0} {g : Ghosts D} (means : D → Meaning) (before after : Vol
         had = subst (λ p. HasHad p 0) (sym progress_is) refl;
       }
 
-      pub gone_turn : AllByRecursion (λ (l : Line). IsBuilt l.call) lines → IsLastOf line.call (newest (history_of after)).reply (had_of actor.progress + 1) → (at : Standing) → StandsAt lines actor at
+      pub gone_turn : AllByRecursion (λ (l : Line). IsBuilt l.call) lines → (now : Progress) → OnEntry actor.progress Answered now (IsLastOf line.call (newest (history_of after)).reply (had_of actor.progress + 1)) → (at : Standing) → StandsAt lines actor at
           → IsTurnFrom (means (origin_of before)) lines n at moved (answered_by_now before) (answered_by_now after)
-      gone_turn built last at stood = elim did [
+      gone_turn built now last at stood = elim did [
         | inl it ↦ record {
           next = gone_on at;
           stands = stands_gone_at at stood;
@@ -182,7 +189,7 @@ module _ {D : Type 0} {g : Ghosts D} (means : D → Meaning) (before after : Vol
                 (begun_here origin (told_of before) lines (history_of before) actor.place line within is actor.progress stands.on_way)
                 it.1.none
                 (subst (λ k. FitsHistory origin (told_of before) (history_of before) k line.call actor.progress) same (fits_here origin (told_of before) lines (history_of before) actor.place line within is actor.progress same stands.on_way))
-                last is_told w found texts calls answered);
+                (entry_there actor.progress now (IsLastOf line.call (newest (history_of after)).reply (had_of actor.progress + 1)) it.1.none last) is_told w found texts calls answered);
           }))));
         }
       ]
