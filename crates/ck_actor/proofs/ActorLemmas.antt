@@ -33,7 +33,7 @@ use Rattle.ck_volume.specs.Told.{AreAnswered}
 use Rattle.ck_volume.specs.Turn.{OnStrip, UnlessStrip}
 use Rattle.ck_volume.proofs.FitsLaws.{had_below, turns_on_way}
 use Rattle.ck_actor.specs.declared.place.Place.{Place}
-use Rattle.ck_actor.specs.Actor.{entered_line, IsOnWay, OnWay}
+use Rattle.ck_actor.specs.Actor.{entered_line, entered_numbers, IsOnWay, OnWay}
 use Rattle.ck_actor.specs.Place.{IsFound}
 use Rattle.ck_actor.specs.Counts.{AsFrozen, FrozenMaps, Takes, frozen_on, frozen_turns}
 use Rattle.ck_actor.proofs.PlaceLemmas.{all_before, calls_as_many, left_at, own_at, own_call, own_line, own_number}
@@ -182,6 +182,22 @@ pub is_fresh : (origin : Meaning) (told : List Call) (lines : List Line) (histor
 is_fresh origin told lines history place Fresh past on_way = refl
 is_fresh origin told lines history place (Read read) past on_way = absurd (none_some (slice_get lines place.line) on_way.line (slice_get_past lines place.line past) on_way.line_is)
 is_fresh origin told lines history place (Strip id) past on_way = absurd (none_some (slice_get lines place.line) on_way.line (slice_get_past lines place.line past) on_way.line_is)
+
+-- a call that is on its way keeps the place, so what has entries stays
+pub entered_still : (lines : List Line) (place next : Place) (progress : Progress) → OnWay progress (next ≡ place) → numbers_in (take next.line lines) place.actor ≡ numbers_in (take place.line lines) place.actor → next.actor ≡ place.actor
+    → entered_numbers lines next progress ≡ entered_numbers lines place progress
+entered_still lines place next Fresh same between actor_is = ap (λ n. numbers_in (take next.line lines) n) actor_is ∙ between
+entered_still lines place next (Read read) same between actor_is = ap (λ (p : Place). entered_numbers lines p (Read read)) same
+entered_still lines place next (Strip id) same between actor_is = ap (λ (p : Place). entered_numbers lines p (Strip id)) same
+
+pub entered_behind : (place : Place) (p : Progress) → place.line ≤ entered_line place p
+entered_behind place Fresh = omega arith
+entered_behind place (Read read) = omega arith
+entered_behind place (Strip id) = omega arith
+
+-- at the end all its calls have entries
+pub all_entered : (lines : List Line) (place : Place) (progress : Progress) → length lines ≤ place.line → entered_numbers lines place progress ≡ numbers_in lines place.actor
+all_entered lines place progress past = let more = entered_behind place progress in all_before lines (entered_line place progress) place.actor (omega (arith, past, more))
 
 pub on_way_still : (origin : Meaning) (told : List Call) (lines : List Line) (history : List Entry) (place next : Place) (progress : Progress) → OnWay progress (next ≡ place) → IsOnWay origin told lines history place progress
     → IsOnWay origin told lines history next progress

@@ -23,7 +23,7 @@ use Rattle.ck_volume.specs.declared.volume.Volume.{Volume}
 use Rattle.ck_actor.specs.declared.actor.Actor.{Actor}
 use Rattle.ck_actor.specs.declared.place.Place.{Place}
 use Rattle.ck_volume.specs.declared.event.Progress.{Progress}
-use Rattle.ck_volume.specs.declared.event.Progress.TheVariants.{Fresh, Read, Strip}
+use Rattle.ck_volume.specs.declared.event.Progress.TheVariants.{Fresh}
 use Rattle.ck_actor.specs.Actor.{entered_line, entered_numbers, HasHad, IsNew, IsOnWay, OnWay}
 use Rattle.ck_actor.specs.Counts.{TurnCounts}
 use Rattle.ck_actor.specs.Place.{answered_count, call_count}
@@ -31,6 +31,7 @@ use Rattle.ck_actor.specs.Played.{places_of, AreBegun, AreFinished, AreTurned, H
 use Rattle.ck_actor.specs.Turned.{Answered}
 use Rattle.ck_actor.specs.Turns.{Follows, at_first}
 use Rattle.ck_actor.specs.Walk.{Standings, seq_at, Agrees, IsWalked}
+use Rattle.ck_actor.proofs.ActorLemmas.{entered_behind}
 use Rattle.ck_actor.proofs.LeftLemmas.{completed_all, completed_begins}
 use Rattle.ck_actor.proofs.PlaceLemmas.{calls_as_many, numbers_in-append}
 use Rattle.ck_actor.proofs.PlayedLemmas.{left_first}
@@ -107,11 +108,6 @@ first_finished means origin clock lines turns volume actors so_far = record {
 }
 
 -- ---- behind the last one
-
-entered_behind : (place : Place) (p : Progress) → place.line ≤ entered_line place p
-entered_behind place Fresh = omega arith
-entered_behind place (Read read) = omega arith
-entered_behind place (Strip id) = omega arith
 
 -- an actor whose calls are all before a line has just those
 all_numbers : (lines : List Line) (at actor : ℕ) → call_count lines actor ≤ call_count (take at lines) actor → numbers_in (take at lines) actor ≡ numbers_in lines actor

@@ -1,6 +1,8 @@
-use Rattle.std.proofs.Common.{◌<◌, ◌+◌, inl, refl, ap, ◌∙◌}
+use Rattle.std.proofs.Common.{◌<◌, ◌+◌, inl, refl, sym, ap, subst, ◌∙◌}
 use Rattle.ck_model.specs.History.{call_at}
 use Rattle.ck_script.specs.Numbered.{calls_in}
+use Rattle.ck_volume.specs.declared.event.Progress.{Progress}
+use Rattle.ck_volume.specs.Turn.{UnlessStrip}
 use Rattle.ck_volume.specs.Volume.{history_of, origin_of, room_of, table_of, told_of}
 use Rattle.ck_actor.specs.Actor.{turns_left}
 use Rattle.ck_actor.proofs.ActorLemmas.{at_end_rests, no_call_behind, room_unless_strip}
@@ -8,7 +10,10 @@ use Rattle.ck_actor.proofs.actor.Actor.act.Goals as goal
 
 pub event-requires-clause-room : goal.event-requires-clause-room
 event-requires-clause-room g c =
-    room_unless_strip c.args.lines.now c.args.self.now.place c.args.self.now.progress (room_of c.args.volume.now) c.if-self-lines.true c.requires.found.own c.requires.room
+    let actor = c.args.self.now in
+    let room = room_of c.args.volume.now in
+    subst (λ (p : Progress). UnlessStrip p (0 < room)) (sym c.note_moment.ensures.progress)
+    (room_unless_strip c.args.lines.now actor.place actor.progress room c.if-self-lines.true c.requires.found.own c.requires.room)
 
 pub returns-else-self-lines-clause-turn : goal.returns-else-self-lines-clause-turn
 returns-else-self-lines-clause-turn g c = λ at stood.

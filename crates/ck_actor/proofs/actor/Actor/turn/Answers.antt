@@ -1,13 +1,14 @@
-use Rattle.std.proofs.Common.{◌≡◌, ◌≤◌, ◌-◌, ℕ, List, length, take, sym, ap, subst, ◌∙◌}
+use Rattle.std.proofs.Common.{◌≡◌, ◌≤◌, ◌<◌, ◌-◌, ◌+◌, ℕ, List, length, take, sym, ap, subst, ◌∙◌}
 use Rattle.ck_model.specs.History.{numbers_of}
 use Rattle.ck_script.specs.declared.line.Line.{Line}
 use Rattle.ck_script.specs.Numbered.{numbers_in}
 use Rattle.ck_volume.specs.declared.event.Progress.{Progress}
-use Rattle.ck_volume.specs.Volume.{history_of, origin_of, room_of, told_of}
-use Rattle.ck_actor.specs.Actor.{IsOnWay, Stands}
-use Rattle.ck_actor.specs.Place.{call_count}
-use Rattle.ck_actor.proofs.ActorLemmas.{found_here, on_way_still}
-use Rattle.ck_actor.proofs.PlaceLemmas.{all_before, none_left}
+use Rattle.ck_volume.specs.Volume.{history_of, origin_of, room_of, table_of, told_of}
+use Rattle.ck_actor.specs.Actor.{entered_numbers, turns_left, HasHad, IsOnWay, IsThrough, OnWay, Stands, StandsAt}
+use Rattle.ck_actor.specs.Place.{answered_count, call_count}
+use Rattle.ck_actor.specs.Turned.{answered_by_now, IsTurnFrom}
+use Rattle.ck_actor.proofs.ActorLemmas.{all_entered, entered_still, found_here, is_fresh, on_way_still}
+use Rattle.ck_actor.proofs.PlaceLemmas.{none_left}
 use Rattle.ck_actor.proofs.actor.Actor.turn.Goals as goal
 
 pub seek-requires : goal.seek-requires
@@ -26,37 +27,66 @@ act-requires-clause-stands g c =
     let items = c.items-lines.result.now in
     let old = c.args.self.now in
     let new = c.seek.new.self in
+    let seek = c.seek.ensures in
     let before : Stands origin told items history old = subst (λ (lines : List Line). Stands origin told lines history old) (sym c.items-lines.ensures) c.requires.stands in
     record {
-      numbers = subst (λ n. numbers_of history n ≡ numbers_in (take new.place.line items) n) (sym c.seek.ensures.actor) (before.numbers ∙ sym c.seek.ensures.between);
-      on_way = subst (λ (p : Progress). IsOnWay origin told items history new.place p) (sym c.seek.ensures.progress) (on_way_still origin told items history old.place new.place old.progress c.seek.ensures.on_read before.on_way);
+      numbers = subst (λ p. numbers_of history new.place.actor ≡ entered_numbers items new.place p) (sym seek.progress)
+          (ap (λ n. numbers_of history n) seek.actor ∙ before.numbers ∙ sym (entered_still items old.place new.place old.progress seek.on_way seek.between seek.actor));
+      on_way = subst (λ (p : Progress). IsOnWay origin told items history new.place p) (sym seek.progress) (on_way_still origin told items history old.place new.place old.progress seek.on_way before.on_way);
     }
 
 pub act-requires-clause-room : goal.act-requires-clause-room
 act-requires-clause-room g c =
     let items = c.items-lines.result.now in
-    let actor = c.args.self.now.place.actor in
-    let old = c.args.self.now.place.line in
-    let line = c.seek.new.self.place.line in
+    let old = c.args.self.now in
+    let new = c.seek.new.self in
+    let seek = c.seek.ensures in
     let room = room_of c.args.volume.now in
-    subst (λ n. call_count items n - length (numbers_in (take line items) n) ≤ room) (sym c.seek.ensures.actor)
-    (subst (λ (numbers : List ℕ). call_count items actor - length numbers ≤ room) (sym c.seek.ensures.between)
-    (subst (λ (lines : List Line). call_count lines actor - length (numbers_in (take old lines) actor) ≤ room) (sym c.items-lines.ensures) c.requires.room))
+    subst (λ p. call_count items new.place.actor - length (entered_numbers items new.place p) ≤ room) (sym seek.progress)
+    (subst (λ (numbers : List ℕ). call_count items new.place.actor - length numbers ≤ room) (sym (entered_still items old.place new.place old.progress seek.on_way seek.between seek.actor))
+    (subst (λ n. call_count items n - length (entered_numbers items old.place old.progress) ≤ room) (sym seek.actor)
+    (subst (λ (lines : List Line). call_count lines old.place.actor - length (entered_numbers lines old.place old.progress) ≤ room) (sym c.items-lines.ensures) c.requires.room)))
+
+pub returns-clause-turn : goal.returns-clause-turn
+returns-clause-turn g c = λ at stood.
+    let volume = c.args.volume.now in
+    let origin = g.D.Disk.means (origin_of volume) in
+    let before = answered_by_now volume in
+    let after = answered_by_now c.act.new.volume in
+    let items = c.items-lines.result.now in
+    let old = c.args.self.now in
+    let new = c.seek.new.self in
+    let moved = c.act.new.self in
+    let seek = c.seek.ensures in
+    let through : at.through ≡ answered_count items old.place = subst (λ (lines : List Line). at.through ≡ answered_count lines old.place) (sym c.items-lines.ensures) stood.through in
+    let stood_new : StandsAt items new at = record {
+      through = through ∙ sym (ap (λ n. length (numbers_in (take new.place.line items) n)) seek.actor ∙ ap (λ (numbers : List ℕ). length numbers) seek.between);
+      had = subst (λ p. HasHad p at.had) (sym seek.progress) stood.had;
+    } in
+    subst (λ (lines : List Line). IsTurnFrom origin lines old.place.actor at moved before after) c.items-lines.ensures
+    (subst (λ n. IsTurnFrom origin items n at moved before after) seek.actor (c.act.ensures.turn at stood_new))
+
+pub returns-clause-fewer : goal.returns-clause-fewer
+returns-clause-fewer g c =
+    let now = c.act.new.self.progress in
+    subst (λ (p : Progress). OnWay now (turns_left now (table_of c.act.new.volume) < turns_left p (table_of c.args.volume.now))) c.seek.ensures.progress c.act.ensures.fewer
 
 pub returns-clause-through : goal.returns-clause-through
 returns-clause-through g c =
     let items = c.items-lines.result.now in
-    let history = history_of c.act.new.volume in
-    let place = c.act.new.self.place in
-    let number = c.args.self.now.place.actor in
-    let same : place.actor ≡ number = c.act.ensures.number ∙ c.seek.ensures.actor in
-    let stands : numbers_of history place.actor ≡ numbers_in (take place.line items) place.actor = c.act.ensures.stands.numbers in (
+    let volume = c.act.new.volume in
+    let history = history_of volume in
+    let actor = c.act.new.self in
+    let place = actor.place in
+    let stands = c.act.ensures.stands in (
       λ through.
-          subst (λ (lines : List Line). numbers_of history number ≡ numbers_in lines number) c.items-lines.ensures
-          (subst (λ n. numbers_of history n ≡ numbers_in items n) same (stands ∙ all_before items place.line place.actor (c.turned.ensures.0 through))),
+          let past = c.turned.ensures.0 through in
+          subst (λ (lines : List Line). IsThrough lines history actor) c.items-lines.ensures (record {
+            numbers = stands.numbers ∙ all_entered items place actor.progress past;
+            at_rest = is_fresh (g.D.Disk.means (origin_of volume)) (told_of volume) items history place actor.progress past stands.on_way;
+          }),
       λ all.
-          let here : numbers_of history place.actor ≡ numbers_in items place.actor =
-          subst (λ n. numbers_of history n ≡ numbers_in items n) (sym same)
-          (subst (λ (lines : List Line). numbers_of history number ≡ numbers_in lines number) (sym c.items-lines.ensures) all) in
-          c.turned.ensures.1 (none_left items place.line place.actor c.act.ensures.found.own (sym stands ∙ here)),
+          let here : IsThrough items history actor = subst (λ (lines : List Line). IsThrough lines history actor) (sym c.items-lines.ensures) all in
+          let numbers : numbers_of history place.actor ≡ numbers_in (take place.line items) place.actor = stands.numbers ∙ ap (λ (p : Progress). entered_numbers items place p) here.at_rest in
+          c.turned.ensures.1 (none_left items place.line place.actor c.act.ensures.found.own (sym numbers ∙ here.numbers)),
     )
