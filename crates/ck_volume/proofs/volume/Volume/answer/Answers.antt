@@ -19,7 +19,7 @@ use Rattle.ck_volume.proofs.CutsAfter.{cuts-event}
 use Rattle.ck_volume.proofs.EventLemmas.{longer-put}
 use Rattle.ck_volume.proofs.StandsLaws.{by-entry, or-entry, broken-goes, within-event, replies-more, stands-told}
 use Rattle.ck_volume.proofs.StoodLaws.{stood, ready-known}
-use Rattle.ck_volume.proofs.volume.Volume.event.Goals as goal
+use Rattle.ck_volume.proofs.volume.Volume.answer.Goals as goal
 
 pub happen-requires-clause-ready : goal.happen-requires-clause-ready
 happen-requires-clause-ready g c =
@@ -33,7 +33,7 @@ happen-requires-clause-fits g c = λ told.
     let mid = g.D.Disk.means (disk_of volume.engine) in
     let before = present volume.engine volume.log in
     fits_world origin mid (told_of volume.told) before (stood origin mid (told_of volume.told) before volume.kept.stands) volume.kept.begins
-    (subst IsTrue volume.kept.runs.tells told) c.args.actor c.args.call.now c.args.progress.now c.requires.begun c.requires.fits
+    (subst IsTrue volume.kept.runs.tells told) c.args.actor c.args.call.now c.args.progress.now c.requires.unless_strip c.requires.begun c.requires.fits
 
 -- ---- where a block was read
 
