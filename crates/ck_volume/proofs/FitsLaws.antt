@@ -160,21 +160,24 @@ none_of entry actor apart =
     ] refl
 
 -- an entry stays where it is as others come behind it
-stays_there : (history more : List Entry) (number : ℕ) (entry : Entry) → slice_get history number ≡ Some entry → slice_get (history ++ more) number ≡ Some entry
+stays_there : (entries more : List Entry) (number : ℕ) (entry : Entry) → slice_get entries number ≡ Some entry → slice_get (entries ++ more) number ≡ Some entry
 stays_there [] more number entry is = absurd (none_there entry is)
   where
     none_there : (e : Entry) → None ≡ Some e → ⊥
     none_there e h = cc
-stays_there (first ∷ history) more zero entry is = is
-stays_there (first ∷ history) more (suc number) entry is = stays_there history more number entry is
+stays_there (first ∷ entries) more zero entry is = is
+stays_there (first ∷ entries) more (suc number) entry is = stays_there entries more number entry is
 
 module _ (texts : Texts) (calls : CallsBy) (w : World) (history : List Entry) (entry : Entry) (actor : ℕ) (apart : entry.actor ≢ actor) where
+  abbrev one_if : Bool → ℕ
+  one_if b = if b then 1 else 0
+
   -- what is stripped stays the checkpoint of the actor's last call
   strips_others : (name : List ℕ) (id : ℕ) → StripsNamed texts calls w history actor name id → StripsNamed texts calls w (history ++ entry ∷ []) actor name id
   strips_others name id strips =
       let within : strips.number < length history = slice_get_within history strips.number strips.entry strips.there in
       let many = numbers-more history entry actor in
-      let none : (if nat_eq entry.actor actor then 1 else 0) ≡ 0 = ap (λ b. if b then 1 else 0) (false_from_ne_true (nat_eq entry.actor actor) (λ h. apart (eqb-true entry.actor actor h))) in
+      let none : one_if (nat_eq entry.actor actor) ≡ 0 = ap one_if (false_from_ne_true (nat_eq entry.actor actor) (λ h. apart (eqb-true entry.actor actor h))) in
       record {
         number = strips.number;
         entry = strips.entry;
