@@ -9,7 +9,7 @@ use Rattle.std.proofs.lemmas.Bool.Decides.{nat_tests}
 use Rattle.std.proofs.lemmas.List.Elements.{filter_map-append}
 use Rattle.ck_disk.specs.Disk.{Meaning}
 use Rattle.ck_model.specs.declared.call.Call.{Call}
-use Rattle.ck_model.specs.declared.call.Call.TheVariants.{Backup, Cread, Full, Nodata}
+use Rattle.ck_model.specs.declared.call.Call.TheVariants.{Backup, Cread, Full}
 use Rattle.ck_model.specs.declared.entry.Entry.{Entry}
 use Rattle.ck_model.specs.declared.reply.Reply.{Reply}
 use Rattle.ck_model.specs.declared.reply.Reply.TheVariants.{Bytes}
@@ -27,12 +27,13 @@ use Rattle.ck_read.specs.declared.progress.ReadProgress.{ReadProgress}
 use Rattle.ck_read.specs.Progress.{all_turns, turns_had, turns_of}
 use Rattle.ck_engine.specs.Recovery.{Recovers}
 use Rattle.ck_volume.specs.declared.event.Progress.{Progress}
-use Rattle.ck_volume.specs.declared.event.Progress.TheVariants.{Fresh, Read}
+use Rattle.ck_volume.specs.declared.event.Progress.TheVariants.{Fresh, Read, Strip}
 use Rattle.ck_volume.specs.Progress.{had_of, reading_of, FitsHistory, IsBegunFor, IsLastOf}
 use Rattle.ck_volume.specs.Told.{AreAnswered}
+use Rattle.ck_volume.specs.Turn.{OnStrip, UnlessStrip}
 use Rattle.ck_volume.proofs.FitsLaws.{had_below, turns_on_way}
 use Rattle.ck_actor.specs.declared.place.Place.{Place}
-use Rattle.ck_actor.specs.Actor.{IsOnWay, OnRead}
+use Rattle.ck_actor.specs.Actor.{entered_line, IsOnWay, OnWay}
 use Rattle.ck_actor.specs.Place.{IsFound}
 use Rattle.ck_actor.specs.Counts.{AsFrozen, FrozenMaps, Takes, frozen_on, frozen_turns}
 use Rattle.ck_actor.proofs.PlaceLemmas.{all_before, calls_as_many, left_at, own_at, own_call, own_line, own_number}
@@ -58,13 +59,20 @@ pub room_here : (lines : List Line) (at : ℕ) (line : Line) (actor room : ℕ) 
     → length (numbers_in lines actor) - length (numbers_in (take at lines) actor) ≤ room → 0 < room
 room_here lines at line actor room within is own enough = let less = left_at lines at line actor within is own in omega (arith, less, enough)
 
-pub room_there : (lines : List Line) (at actor room : ℕ) → at < length lines → IfSome (slice_get lines at) (λ line. line.actor ≡ actor)
+room_there : (lines : List Line) (at actor room : ℕ) → at < length lines → IfSome (slice_get lines at) (λ line. line.actor ≡ actor)
     → length (numbers_in lines actor) - length (numbers_in (take at lines) actor) ≤ room → 0 < room
 room_there lines at actor room within own enough =
     elim (slice_get_cases lines at).1 [
       | inl there ↦ room_here lines at there.0 actor room there.1 (sym there.3) (own_at lines at there.0 actor there.1 (sym there.3) own) enough
       | inr past ↦ absurd (omega (arith, within, past.0))
     ]
+
+-- a call that strips has its entry
+pub room_unless_strip : (lines : List Line) (place : Place) (progress : Progress) (room : ℕ) → place.line < length lines → IfSome (slice_get lines place.line) (λ line. line.actor ≡ place.actor)
+    → length (numbers_in lines place.actor) - length (numbers_in (take (entered_line place progress) lines) place.actor) ≤ room → UnlessStrip progress (0 < room)
+room_unless_strip lines place Fresh room within own enough = room_there lines place.line place.actor room within own enough
+room_unless_strip lines place (Read read) room within own enough = room_there lines place.line place.actor room within own enough
+room_unless_strip lines place (Strip id) room within own enough = tt
 
 pub all_more : (P : Entry → Type 0) (history : List Entry) (entry : Entry) → AllByRecursion P history → P entry → AllByRecursion P (history ++ entry ∷ [])
 all_more P [] entry h p = (p, tt)
@@ -114,12 +122,16 @@ module _ (origin : Meaning) (told : List Call) (lines : List Line) (history : Li
   pub begun_here : (progress : Progress) → IsOnWay origin told lines history place progress → IsBegunFor line.call progress
   begun_here Fresh on_way = tt
   begun_here (Read read) on_way = subst (λ (l : Line). IsBegunFor l.call (Read read)) (some_line on_way.line line (sym on_way.line_is ∙ there)) on_way.begun
+  begun_here (Strip id) on_way = subst (λ (l : Line). IsBegunFor l.call (Strip id)) (some_line on_way.line line (sym on_way.line_is ∙ there)) on_way.begun
 
   pub fits_here : (progress : Progress) → line.actor ≡ place.actor → IsOnWay origin told lines history place progress → FitsHistory origin told history line.actor line.call progress
   fits_here Fresh own on_way = tt
   fits_here (Read read) own on_way =
       subst (λ n. FitsHistory origin told history n line.call (Read read)) (sym own)
       (subst (λ (l : Line). FitsHistory origin told history place.actor l.call (Read read)) (some_line on_way.line line (sym on_way.line_is ∙ there)) on_way.fits)
+  fits_here (Strip id) own on_way =
+      subst (λ n. FitsHistory origin told history n line.call (Strip id)) (sym own)
+      (subst (λ (l : Line). FitsHistory origin told history place.actor l.call (Strip id)) (some_line on_way.line line (sym on_way.line_is ∙ there)) on_way.fits)
 
   pub on_way_here : (progress : Progress) → line.actor ≡ place.actor → IsBegunFor line.call progress → FitsHistory origin told history line.actor line.call progress → IsOnWay origin told lines history place progress
   on_way_here Fresh own begun fits = tt
@@ -130,13 +142,20 @@ module _ (origin : Meaning) (told : List Call) (lines : List Line) (history : Li
     begun = begun;
     fits = subst (λ n. FitsHistory origin told history n line.call (Read read)) own fits;
   }
+  on_way_here (Strip id) own begun fits = record {
+    line = line;
+    line_is = there;
+    own = own;
+    begun = begun;
+    fits = subst (λ n. FitsHistory origin told history n line.call (Strip id)) own fits;
+  }
 
 -- ---- the place of a call that is on its way
 
 none_some : (o : Option Line) (x : Line) → o ≡ None → o ≡ Some x → ⊥
 none_some o x none some = cc
 
-pub found_here : (origin : Meaning) (told : List Call) (lines : List Line) (history : List Entry) (place : Place) (progress : Progress) → IsOnWay origin told lines history place progress → OnRead progress (IsFound lines place)
+pub found_here : (origin : Meaning) (told : List Call) (lines : List Line) (history : List Entry) (place : Place) (progress : Progress) → IsOnWay origin told lines history place progress → OnWay progress (IsFound lines place)
 found_here origin told lines history place Fresh on_way = tt
 found_here origin told lines history place (Read read) on_way = record {
   within = elim (slice_get_cases lines place.line).1 [
@@ -145,11 +164,19 @@ found_here origin told lines history place (Read read) on_way = record {
   ];
   own = subst (λ found. IfSome found (λ line. line.actor ≡ place.actor)) (sym on_way.line_is) on_way.own;
 }
+found_here origin told lines history place (Strip id) on_way = record {
+  within = elim (slice_get_cases lines place.line).1 [
+    | inl there ↦ let within = there.1 in omega (arith, within)
+    | inr past ↦ absurd (none_some (slice_get lines place.line) on_way.line (slice_get_past lines place.line past.0) on_way.line_is)
+  ];
+  own = subst (λ found. IfSome found (λ line. line.actor ≡ place.actor)) (sym on_way.line_is) on_way.own;
+}
 
-pub on_way_still : (origin : Meaning) (told : List Call) (lines : List Line) (history : List Entry) (place next : Place) (progress : Progress) → OnRead progress (next ≡ place) → IsOnWay origin told lines history place progress
+pub on_way_still : (origin : Meaning) (told : List Call) (lines : List Line) (history : List Entry) (place next : Place) (progress : Progress) → OnWay progress (next ≡ place) → IsOnWay origin told lines history place progress
     → IsOnWay origin told lines history next progress
 on_way_still origin told lines history place next Fresh same on_way = tt
 on_way_still origin told lines history place next (Read read) same on_way = subst (λ (p : Place). IsOnWay origin told lines history p (Read read)) (sym same) on_way
+on_way_still origin told lines history place next (Strip id) same on_way = subst (λ (p : Place). IsOnWay origin told lines history p (Strip id)) (sym same) on_way
 
 -- ---- the turns of a read that is on its way
 
@@ -180,16 +207,17 @@ first_turn maps w actor letter path at len =
     ]
 
 -- a call that is answered has had as many turns as it may take
-pub takes_of : (origin : Meaning) (told : List Call) (history : List Entry) (actor : ℕ) (call : Call) (reply : Reply) (progress : Progress) → IsBuilt call → IsBegunFor call progress → FitsHistory origin told history actor call progress
+pub takes_of : (origin : Meaning) (told : List Call) (history : List Entry) (actor : ℕ) (call : Call) (reply : Reply) (progress : Progress) → IsBuilt call → IsBegunFor call progress → OnStrip progress (λ id. ⊥) → FitsHistory origin told history actor call progress
     → IsLastOf call reply (had_of progress + 1) → IsTrue origin.tells → (w : World) → Recovers origin.shows w → (texts : Texts) (calls : CallsBy) → AreAnswered calls told history
     → Takes (frozen_turns (frozen texts calls w history) (state texts calls w history) actor call) call reply (had_of progress + 1)
-takes_of origin told history actor (Cread letter path at len) (Bytes bytes) progress built begun fits last is_told w found texts calls answered = record { some = omega arith; told = λ _. last }
-takes_of origin told history actor (Cread letter path at len) _ Fresh built begun fits last is_told w found texts calls answered =
+takes_of origin told history actor (Cread letter path at len) (Bytes bytes) progress built begun none fits last is_told w found texts calls answered = record { some = omega arith; told = λ _. last }
+takes_of origin told history actor (Cread letter path at len) _ Fresh built begun none fits last is_told w found texts calls answered =
     record { some = omega arith; told = λ _. first_turn (frozen texts calls w history) (state texts calls w history) actor letter path at len }
-takes_of origin told history actor (Cread letter path at len) _ (Read read) built begun fits last is_told w found texts calls answered =
+takes_of origin told history actor (Cread letter path at len) _ (Read read) built begun none fits last is_told w found texts calls answered =
     record { some = omega arith; told = λ _. as_frozen_on_way texts calls w history actor letter path at len read (fits is_told w found texts calls answered) }
-takes_of origin told history actor (Full letter) reply progress built begun fits last is_told w found texts calls answered = absurd built
-takes_of origin told history actor (Backup letter later) reply progress built begun fits last is_told w found texts calls answered = absurd built
-takes_of origin told history actor (Nodata name synchronous) reply progress built begun fits last is_told w found texts calls answered = absurd built
-takes_of origin told history actor _ reply Fresh built begun fits last is_told w found texts calls answered = record { some = omega arith; told = λ _. refl }
-takes_of origin told history actor _ reply (Read read) built begun fits last is_told w found texts calls answered = absurd begun
+takes_of origin told history actor (Cread letter path at len) _ (Strip id) built begun none fits last is_told w found texts calls answered = absurd none
+takes_of origin told history actor (Full letter) reply progress built begun none fits last is_told w found texts calls answered = absurd built
+takes_of origin told history actor (Backup letter later) reply progress built begun none fits last is_told w found texts calls answered = absurd built
+takes_of origin told history actor _ reply Fresh built begun none fits last is_told w found texts calls answered = record { some = omega arith; told = λ _. refl }
+takes_of origin told history actor _ reply (Read read) built begun none fits last is_told w found texts calls answered = absurd begun
+takes_of origin told history actor _ reply (Strip id) built begun none fits last is_told w found texts calls answered = absurd none

@@ -1,6 +1,5 @@
 -- The calls that are left behind the listed turns, one after another.
-use Rattle.std.proofs.Common.{◌≡◌, ◌≤◌, ◌<◌, ◌⊎◌, inl, inr, ℕ, ◌+◌, Bool, true, false, cond, List, [], ◌∷◌, ◌++◌, filter, map as list_map, length, take, get_or, nat_eq, nat_lt, if◌then◌else◌, refl, sym, ap, subst, ◌∙◌, arith, append_assoc, length-append}
-use Rattle.std.specs.List.{AllByRecursion}
+use Rattle.std.proofs.Common.{◌≡◌, ◌≤◌, ◌<◌, ◌⊎◌, inl, inr, ℕ, zero, suc, ◌+◌, Bool, true, false, cond, List, [], ◌∷◌, ◌++◌, filter, map as list_map, length, take, get_or, nat_eq, nat_lt, if◌then◌else◌, refl, sym, ap, subst, ◌∙◌, arith, append_assoc, length-append}
 use Rattle.std.proofs.lemmas.Bool.Decides.{nat_tests}
 use Rattle.std.proofs.lemmas.List.{append-nil, take_all, take_more, map-append}
 use Rattle.ck_script.specs.declared.line.Line.{Line}
@@ -8,10 +7,10 @@ use Rattle.ck_script.specs.Numbered.{numbers_in, IsNumbered}
 use Rattle.ck_actor.specs.Completed.{IsSound, IsCompleted}
 use Rattle.ck_actor.specs.Counts.{TurnCounts}
 use Rattle.ck_actor.specs.Place.{call_count}
-use Rattle.ck_actor.specs.Turns.{Standing, at_first, going_on, gone_on, answered_by}
-use Rattle.ck_actor.specs.Walk.{Standings, seq_at, place_of, moved_to, with_count, Agrees, IsWalked}
+use Rattle.ck_actor.specs.Turns.{Standing, at_first, answering_turn, answered_by}
+use Rattle.ck_actor.specs.Walk.{Standings, seq_at, place_of, ahead_at, is_ahead, moved_to, with_count, Agrees, IsWalked}
 use Rattle.ck_actor.proofs.PlaceLemmas.{other_line, own_line, own_number}
-use Rattle.ck_actor.proofs.TurnLemmas.{IsAtLast, same_number, walk_ends}
+use Rattle.ck_actor.proofs.TurnLemmas.{answered_when, same_number, walk_ends}
 
 -- what holds of the actor that moved and of each other one holds of all
 pub each_actor : (P : ℕ → Standing → Type 0) (number : ℕ) (s : Standing) (at : Standings) → P number s → ((a : ℕ) → nat_eq a number ≡ false → P a (at a)) → (a : ℕ) → P a (moved_to number s at a)
@@ -42,12 +41,40 @@ module _ (number seq count : ℕ) (known : TurnCounts) where
 different : (m n : ℕ) → m < n → nat_eq m n ≡ false
 different m n less = grind (arith, nat_tests, less)
 
+-- ---- where a line is ahead
+
+module _ (standing : Standing) (line : Line) where
+  not_ahead_through : line.seq ≤ standing.through → ahead_at standing line ≡ false
+  not_ahead_through low =
+      let other : nat_eq line.seq (standing.through + 1) ≡ false = grind (arith, nat_tests, low) in
+      let less : nat_lt standing.through line.seq ≡ false = grind (arith, nat_tests, low) in
+      ap (λ b. if b then nat_lt standing.had (answering_turn line.call (standing.had + 1)) else nat_lt standing.through line.seq) other ∙ less
+
+  ahead_beyond : standing.through + 1 < line.seq → ahead_at standing line ≡ true
+  ahead_beyond high =
+      let other : nat_eq line.seq (standing.through + 1) ≡ false = grind (arith, nat_tests, high) in
+      let less : nat_lt standing.through line.seq ≡ true = grind (arith, nat_tests, high) in
+      ap (λ b. if b then nat_lt standing.had (answering_turn line.call (standing.had + 1)) else nat_lt standing.through line.seq) other ∙ less
+
+  -- it is the next one
+  pub ahead_next : line.seq ≡ standing.through + 1 → ahead_at standing line ≡ nat_lt standing.had (answering_turn line.call (standing.had + 1))
+  ahead_next is =
+      let same : nat_eq line.seq (standing.through + 1) ≡ true = grind (arith, nat_tests, is) in
+      ap (λ b. if b then nat_lt standing.had (answering_turn line.call (standing.had + 1)) else nat_lt standing.through line.seq) same
+
+  ahead_fresh : line.seq ≡ standing.through + 1 → standing.had ≡ 0 → ahead_at standing line ≡ true
+  ahead_fresh is none =
+      let one : answering_turn line.call 1 ≡ 1 = elim (answered_when line.call) [ | inl last ↦ last 1 | inr first ↦ first 1 ] in
+      let first : 0 + 1 ≡ 1 = omega arith in
+      ahead_next is ∙ ap (λ n. nat_lt n (answering_turn line.call (n + 1))) none ∙ ap (λ n. nat_lt 0 (answering_turn line.call n)) first ∙ ap (λ n. nat_lt 0 n) one
+
 pub completed_begins : (lines : List Line) (first : Standings) (counts : TurnCounts) (before : List (ℕ × ℕ)) → IsCompleted lines first counts before 0 first counts before
 completed_begins lines first counts before = record {
   order = sym (append-nil before);
   kept = λ a seq within. refl;
   began = λ a less. absurd (omega (arith, less));
-  on_way = λ a same. omega arith;
+  still = λ a same. refl;
+  at_rest = λ a less. absurd (omega (arith, less));
   no_less = λ a. omega arith;
   all = λ a. omega arith;
   no_more = λ a less. absurd (omega (arith, less));
@@ -55,18 +82,6 @@ completed_begins lines first counts before = record {
 
 module _ (lines : List Line) (first : Standings) (counts : TurnCounts) (before : List (ℕ × ℕ)) (passed : ℕ) (at : Standings) (known : TurnCounts) (answered : List (ℕ × ℕ))
     (so_far : IsCompleted lines first counts before passed at known answered) where
-  -- a turn that answers no call
-  pub completed_going : (number : ℕ) → IsCompleted lines first counts before passed (moved_to number (going_on (at number)) at) known answered
-  completed_going number = record {
-    order = so_far.order;
-    kept = so_far.kept;
-    began = each_actor (λ a s. (first a).through < s.through → (first a).had < known a (seq_at first a)) number (going_on (at number)) at (so_far.began number) (λ a _. so_far.began a);
-    on_way = each_actor (λ a s. s.through ≡ (first a).through → (first a).had ≤ s.had) number (going_on (at number)) at (λ same. let low = so_far.on_way number same in omega (arith, low)) (λ a _. so_far.on_way a);
-    no_less = each_actor (λ a s. (first a).through ≤ s.through) number (going_on (at number)) at (so_far.no_less number) (λ a _. so_far.no_less a);
-    all = each_actor (λ a s. call_count (take passed lines) a ≤ s.through) number (going_on (at number)) at (so_far.all number) (λ a _. so_far.all a);
-    no_more = each_actor (λ a s. (first a).through < s.through → s.through ≤ call_count (take passed lines) a) number (going_on (at number)) at (so_far.no_more number) (λ a _. so_far.no_more a);
-  }
-
   module _ (line : Line) (numbered : IsNumbered lines) (within : passed < length lines) (is : line ≡ get_or lines passed line) where
     own : nat_eq line.actor line.actor ≡ true
     own = grind (arith, nat_tests)
@@ -96,24 +111,43 @@ module _ (lines : List Line) (first : Standings) (counts : TurnCounts) (before :
               | false ↦ filter_last p xs
             ]
 
-    abbrev ahead : Line → Bool
-    ahead l = nat_lt (first l.actor).through l.seq
-
     -- the order with this line's call, or without it
-    order_with : ahead line ≡ true → answered ++ (line.actor, line.seq) ∷ [] ≡ before ++ list_map place_of (filter ahead (take (passed + 1) lines))
-    order_with is_ahead =
+    order_with : is_ahead first line ≡ true → answered ++ (line.actor, line.seq) ∷ [] ≡ before ++ list_map place_of (filter (is_ahead first) (take (passed + 1) lines))
+    order_with ahead =
         ap (λ xs. xs ++ (line.actor, line.seq) ∷ []) so_far.order
-        ∙ append_assoc before (list_map place_of (filter ahead (take passed lines))) ((line.actor, line.seq) ∷ [])
-        ∙ ap (λ xs. before ++ xs) (sym (map-append place_of (filter ahead (take passed lines)) (line ∷ [])))
-        ∙ ap (λ b. before ++ list_map place_of (filter ahead (take passed lines) ++ (if b then line ∷ [] else []))) (sym is_ahead)
-        ∙ ap (λ xs. before ++ list_map place_of xs) (sym (filtered ahead))
+        ∙ append_assoc before (list_map place_of (filter (is_ahead first) (take passed lines))) ((line.actor, line.seq) ∷ [])
+        ∙ ap (λ xs. before ++ xs) (sym (map-append place_of (filter (is_ahead first) (take passed lines)) (line ∷ [])))
+        ∙ ap (λ b. before ++ list_map place_of (filter (is_ahead first) (take passed lines) ++ (if b then line ∷ [] else []))) (sym ahead)
+        ∙ ap (λ xs. before ++ list_map place_of xs) (sym (filtered (is_ahead first)))
 
-    order_without : ahead line ≡ false → answered ≡ before ++ list_map place_of (filter ahead (take (passed + 1) lines))
+    order_without : is_ahead first line ≡ false → answered ≡ before ++ list_map place_of (filter (is_ahead first) (take (passed + 1) lines))
     order_without not_ahead =
         so_far.order
-        ∙ ap (λ xs. before ++ list_map place_of xs) (sym (append-nil (filter ahead (take passed lines))))
-        ∙ ap (λ b. before ++ list_map place_of (filter ahead (take passed lines) ++ (if b then line ∷ [] else []))) (sym not_ahead)
-        ∙ ap (λ xs. before ++ list_map place_of xs) (sym (filtered ahead))
+        ∙ ap (λ xs. before ++ list_map place_of xs) (sym (append-nil (filter (is_ahead first) (take passed lines))))
+        ∙ ap (λ b. before ++ list_map place_of (filter (is_ahead first) (take passed lines) ++ (if b then line ∷ [] else []))) (sym not_ahead)
+        ∙ ap (λ xs. before ++ list_map place_of xs) (sym (filtered (is_ahead first)))
+
+    order_of : (b : Bool) → is_ahead first line ≡ b → answered ++ (if b then (line.actor, line.seq) ∷ [] else []) ≡ before ++ list_map place_of (filter (is_ahead first) (take (passed + 1) lines))
+    order_of true ahead = order_with ahead
+    order_of false not_ahead = append-nil answered ∙ order_without not_ahead
+
+    -- where the line's call isn't through it is ahead as it was at first
+    ahead_same : (at line.actor).through < line.seq → is_ahead at line ≡ is_ahead first line
+    ahead_same left =
+        let low = so_far.no_less line.actor in
+        let all = so_far.all line.actor in
+        let next : line.seq ≡ (at line.actor).through + 1 = omega (arith, seq_here, all, left) in
+        elim (nat_lt (first line.actor).through (at line.actor).through) as (λ b. nat_lt (first line.actor).through (at line.actor).through ≡ b → is_ahead at line ≡ is_ahead first line) [
+          | true ↦ λ less.
+              let less : (first line.actor).through < (at line.actor).through = grind (arith, nat_tests, less) in
+              ahead_fresh (at line.actor) line next (so_far.at_rest line.actor less) ∙ sym (ahead_beyond (first line.actor) line (omega (arith, less, next)))
+          | false ↦ λ not_less.
+              let not_less : (at line.actor).through ≤ (first line.actor).through = grind (arith, nat_tests, not_less) in
+              let through : (at line.actor).through ≡ (first line.actor).through = omega (arith, not_less, low) in
+              let had = so_far.still line.actor through in
+              let same : at line.actor ≡ first line.actor = λ i. record { through = through i; had = had i } in
+              ap (λ (s : Standing). ahead_at s line) same
+        ] refl
 
     -- the call of the next line was answered before
     pub completed_before : line.seq ≤ (at line.actor).through → IsCompleted lines first counts before (passed + 1) at known answered
@@ -128,12 +162,12 @@ module _ (lines : List Line) (first : Standings) (counts : TurnCounts) (before :
               let not_less : (at line.actor).through ≤ (first line.actor).through = grind (arith, nat_tests, not_less) in
               omega (arith, not_less, through)
         ] refl in
-        let not_ahead : ahead line ≡ false = grind (arith, nat_tests, low) in
         record {
-          order = order_without not_ahead;
+          order = order_without (not_ahead_through (first line.actor) line low);
           kept = so_far.kept;
           began = so_far.began;
-          on_way = so_far.on_way;
+          still = so_far.still;
+          at_rest = so_far.at_rest;
           no_less = so_far.no_less;
           all = λ a. elim (nat_eq a line.actor) as (λ b. nat_eq a line.actor ≡ b → call_count (take (passed + 1) lines) a ≤ (at a).through) [
             | true ↦ λ same.
@@ -151,20 +185,19 @@ module _ (lines : List Line) (first : Standings) (counts : TurnCounts) (before :
           ] refl;
         }
 
-    -- a turn that answers the call of the next line
-    pub completed_gone : (at line.actor).through < line.seq
-        → IsCompleted lines first counts before (passed + 1) (moved_to line.actor (gone_on (at line.actor)) at) (with_count line.actor (seq_at at line.actor) ((at line.actor).had + 1) known) (answered ++ (line.actor, line.seq) ∷ [])
-    completed_gone left =
+    -- the call of the next line is brought to its end, after so many turns before the last one
+    pub completed_gone : (had : ℕ) → (at line.actor).had ≤ had → (at line.actor).through < line.seq
+        → IsCompleted lines first counts before (passed + 1) (moved_to line.actor (record { through = (at line.actor).through + 1; had = 0 }) at) (with_count line.actor (seq_at at line.actor) (had + 1) known)
+        (answered ++ (if is_ahead at line then (line.actor, line.seq) ∷ [] else []))
+    completed_gone had more left =
         let number = line.actor in
-        let next = gone_on (at number) in
+        let next : Standing = record { through = (at number).through + 1; had = 0 } in
         let seq = seq_at at number in
-        let count = (at number).had + 1 in
+        let count = had + 1 in
         let all_here = so_far.all number in
         let low_here = so_far.no_less number in
-        let low : (first number).through < line.seq = omega (arith, left, low_here) in
-        let is_ahead : ahead line ≡ true = grind (arith, nat_tests, low) in
         record {
-          order = order_with is_ahead;
+          order = ap (λ b. answered ++ (if b then (line.actor, line.seq) ∷ [] else [])) (ahead_same left) ∙ order_of (is_ahead first line) refl;
           kept = λ a n within.
               elim (nat_eq a number) as (λ b. nat_eq a number ≡ b → with_count number seq count known a n ≡ counts a n) [
                 | true ↦ λ same.
@@ -180,12 +213,13 @@ module _ (lines : List Line) (first : Standings) (counts : TurnCounts) (before :
                 | false ↦ λ not_less.
                     let not_less : (at number).through ≤ (first number).through = grind (arith, nat_tests, not_less) in
                     let same : (at number).through ≡ (first number).through = omega (arith, not_less, low_here) in
-                    let had : (first number).had ≤ (at number).had = so_far.on_way number same in
-                    let enough : (first number).had < count = omega (arith, had) in
+                    let still : (at number).had ≡ (first number).had = so_far.still number same in
+                    let enough : (first number).had < count = omega (arith, still, more) in
                     subst (λ n. (first number).had < with_count number seq count known number n) (ap (λ n. n + 1) same) (subst (λ n. (first number).had < n) (sym (count_own number seq count known)) enough)
               ] refl)
               (λ a other less. subst (λ n. (first a).had < n) (sym (count_other number seq count known a (seq_at first a) other)) (so_far.began a less));
-          on_way = each_actor (λ a s. s.through ≡ (first a).through → (first a).had ≤ s.had) number next at (λ same. absurd (omega (arith, same, low_here))) (λ a _. so_far.on_way a);
+          still = each_actor (λ a s. s.through ≡ (first a).through → s.had ≡ (first a).had) number next at (λ same. absurd (omega (arith, same, low_here))) (λ a _. so_far.still a);
+          at_rest = each_actor (λ a s. (first a).through < s.through → s.had ≡ 0) number next at (λ _. refl) (λ a _. so_far.at_rest a);
           no_less = each_actor (λ a s. (first a).through ≤ s.through) number next at (omega (arith, low_here)) (λ a _. so_far.no_less a);
           all = each_actor (λ a s. call_count (take (passed + 1) lines) a ≤ s.through) number next at (omega (arith, count_here, all_here)) (λ a other. subst (λ n. n ≤ (at a).through) (sym (count_there a other)) (so_far.all a));
           no_more = each_actor (λ a s. (first a).through < s.through → s.through ≤ call_count (take (passed + 1) lines) a) number next at (λ _. omega (arith, count_here, left, seq_here))
@@ -195,12 +229,12 @@ module _ (lines : List Line) (first : Standings) (counts : TurnCounts) (before :
 -- all lines were passed: what was answered is what the turns answer
 pub completed_all : (lines : List Line) (first : Standings) (counts : TurnCounts) (before : List (ℕ × ℕ)) (passed : ℕ) (at : Standings) (known : TurnCounts) (answered : List (ℕ × ℕ)) (turns : List ℕ)
     → length lines ≤ passed → IsWalked lines first counts turns before → IsSound lines first counts → IsSound lines at known → IsCompleted lines first counts before passed at known answered
-    → AllByRecursion (λ line. IsAtLast line.call) lines → answered ≡ answered_by lines known at_first turns
-completed_all lines first counts before passed at known answered turns past walked sound_first sound so_far last =
+    → answered ≡ answered_by lines known at_first turns
+completed_all lines first counts before passed at known answered turns past walked sound_first sound so_far =
     let whole : take passed lines ≡ lines = take_all passed lines past in
     so_far.order
-    ∙ ap (λ (xs : List Line). before ++ list_map place_of (filter (λ line. nat_lt (first line.actor).through line.seq) xs)) whole
-    ∙ sym (walk_ends lines first counts turns before walked known (record { through = so_far.kept; going = going whole }) last)
+    ∙ ap (λ (xs : List Line). before ++ list_map place_of (filter (is_ahead first) xs)) whole
+    ∙ sym (walk_ends lines first counts turns before walked known (record { through = so_far.kept; going = going whole }))
   where
     going : take passed lines ≡ lines → (a : ℕ) → (first a).had < known a (seq_at first a)
     going whole a =

@@ -3,6 +3,7 @@ pub mod TurnLemmas
 pub mod PlaceLemmas
 pub mod LeftLemmas
 pub mod ActorLemmas
+pub mod EventLemmas
 pub mod WorkedScripts
 pub mod PlayedLemmas
 pub mod StepLemmas

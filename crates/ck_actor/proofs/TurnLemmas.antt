@@ -1,16 +1,16 @@
 -- A script's turns, one after another: what they answer, and where the actors stand then.
-use Rattle.std.proofs.Common.{◌≡◌, ◌≤◌, ◌<◌, ℕ, ◌+◌, true, false, cond, Option, None, Some, List, [], ◌∷◌, ◌++◌, filter, map as list_map, nat_eq, nat_lt, if◌then◌else◌, refl, sym, ap, subst, ◌∙◌, arith, append_assoc}
-use Rattle.std.specs.List.{AllByRecursion}
+use Rattle.std.proofs.Common.{◌≡◌, ◌≤◌, ◌<◌, ◌⊎◌, inl, inr, ℕ, ◌+◌, true, false, cond, Option, None, Some, List, [], ◌∷◌, ◌++◌, filter, map as list_map, nat_eq, nat_lt, if◌then◌else◌, refl, sym, ap, subst, ◌∙◌, arith, append_assoc}
 use Rattle.std.specs.Option.{option_map_or}
 use Rattle.std.proofs.lemmas.Bool.Decides.{nat_tests}
 use Rattle.std.proofs.lemmas.List.{append-nil}
 use Rattle.ck_model.specs.declared.call.Call.{Call}
+use Rattle.ck_model.specs.declared.call.Call.TheVariants.{Nodata}
 use Rattle.ck_model.specs.History.{call_at}
 use Rattle.ck_script.specs.declared.line.Line.{Line}
 use Rattle.ck_script.specs.Numbered.{calls_in}
 use Rattle.ck_actor.specs.Counts.{TurnCounts}
 use Rattle.ck_actor.specs.Turns.{Standing, at_first, going_on, gone_on, turned, with_turn, answering_turn, is_left, answered_by}
-use Rattle.ck_actor.specs.Walk.{Standings, seq_at, place_of, next_call, behind, answered_now, standing_after, answered_in, left_behind, moved_to, with_count, Agrees, IsWalked}
+use Rattle.ck_actor.specs.Walk.{Standings, seq_at, place_of, next_call, behind, answered_at, answered_now, standing_after, answered_in, left_behind, is_ahead, moved_to, with_count, Agrees, IsWalked}
 
 module _ (lines : List Line) where
   -- what turns answer, and then what is left
@@ -56,9 +56,16 @@ with_turn-moved actor count at i other = each other i
           | false ↦ λ _. refl
         ] refl
 
--- a call is answered at its last turn
+-- a call is answered at its last turn, or at its first
 abbrev pub IsAtLast : Call → Type 0
 IsAtLast call = (count : ℕ) → answering_turn call count ≡ count
+
+abbrev pub IsAtFirst : Call → Type 0
+IsAtFirst call = (count : ℕ) → answering_turn call count ≡ 1
+
+pub answered_when : (call : Call) → IsAtLast call ⊎ IsAtFirst call
+answered_when (Nodata name true) = inr (λ count. refl)
+answered_when _ = inl (λ count. refl)
 
 pub walk_begins : (lines : List Line) (known : TurnCounts) → IsWalked lines at_first known [] []
 walk_begins lines known counts agrees = (refl, refl)
@@ -79,11 +86,8 @@ module _ (lines : List Line) (counts : TurnCounts) (at : Standings) (actor : ℕ
       ap (λ o. option_map_or (λ call. with_turn actor (counts actor (seq_at at actor)) at) o at) is
       ∙ with_turn-moved actor (counts actor (seq_at at actor)) at
 
-  now-some : (call : Call) → next_call lines at actor ≡ Some call → IsAtLast call
-      → answered_now lines counts at actor ≡ (if nat_eq ((at actor).had + 1) (counts actor (seq_at at actor)) then (actor, seq_at at actor) ∷ [] else [])
-  now-some call is last =
-      ap (λ o. option_map_or (λ call. if nat_eq ((at actor).had + 1) (answering_turn call (counts actor (seq_at at actor))) then (actor, seq_at at actor) ∷ [] else []) o []) is
-      ∙ ap (λ n. if nat_eq ((at actor).had + 1) n then (actor, seq_at at actor) ∷ [] else []) (last (counts actor (seq_at at actor)))
+  now-some : (call : Call) → next_call lines at actor ≡ Some call → answered_now lines counts at actor ≡ answered_at actor (seq_at at actor) (at actor).had call (counts actor (seq_at at actor))
+  now-some call is = ap (λ o. option_map_or (λ call. answered_at actor (seq_at at actor) (at actor).had call (counts actor (seq_at at actor))) o []) is
 
 turned-going : (count : ℕ) (standing : Standing) → standing.had + 1 < count → turned count standing ≡ going_on standing
 turned-going count standing less = let is : nat_lt (standing.had + 1) count ≡ true = grind (arith, nat_tests) in ap (λ b. if b then going_on standing else gone_on standing) is
@@ -96,7 +100,7 @@ same_number m n h = grind (arith, nat_tests)
 
 -- what agrees with the turns behind one more agreed before it
 module _ (counts : TurnCounts) (at : Standings) (known : TurnCounts) (actor : ℕ) where
-  agreed-going : Agrees counts (moved_to actor (going_on (at actor)) at) known → Agrees counts at known
+  pub agreed-going : Agrees counts (moved_to actor (going_on (at actor)) at) known → Agrees counts at known
   agreed-going agrees = record {
     through = λ a seq within.
         elim (nat_eq a actor) as (λ b. nat_eq a actor ≡ b → (seq ≤ (if b then going_on (at actor) else at a).through → counts a seq ≡ known a seq) → counts a seq ≡ known a seq) [
@@ -114,12 +118,12 @@ module _ (counts : TurnCounts) (at : Standings) (known : TurnCounts) (actor : �
         ] refl (agrees.going a);
   }
 
-  going-count : Agrees counts (moved_to actor (going_on (at actor)) at) known → (at actor).had + 1 < counts actor (seq_at at actor)
+  pub going-count : Agrees counts (moved_to actor (going_on (at actor)) at) known → (at actor).had + 1 < counts actor (seq_at at actor)
   going-count agrees =
       let own : nat_eq actor actor ≡ true = grind (arith, nat_tests) in
       subst (λ b. (if b then going_on (at actor) else at actor).had < counts actor ((if b then going_on (at actor) else at actor).through + 1)) own (agrees.going actor)
 
-  gone-count : Agrees counts (moved_to actor (gone_on (at actor)) at) (with_count actor (seq_at at actor) ((at actor).had + 1) known) → counts actor (seq_at at actor) ≡ (at actor).had + 1
+  pub gone-count : Agrees counts (moved_to actor (gone_on (at actor)) at) (with_count actor (seq_at at actor) ((at actor).had + 1) known) → counts actor (seq_at at actor) ≡ (at actor).had + 1
   gone-count agrees =
       let own : nat_eq actor actor ≡ true = grind (arith, nat_tests) in
       let first : nat_eq (seq_at at actor) (seq_at at actor) ≡ true = grind (arith, nat_tests) in
@@ -128,7 +132,7 @@ module _ (counts : TurnCounts) (at : Standings) (known : TurnCounts) (actor : �
       ∙ ap (λ b. if b then (if nat_eq (seq_at at actor) (seq_at at actor) then (at actor).had + 1 else known actor (seq_at at actor)) else known actor (seq_at at actor)) own
       ∙ ap (λ b. if b then (at actor).had + 1 else known actor (seq_at at actor)) first
 
-  agreed-gone : Agrees counts (moved_to actor (gone_on (at actor)) at) (with_count actor (seq_at at actor) ((at actor).had + 1) known) → Agrees counts at known
+  pub agreed-gone : Agrees counts (moved_to actor (gone_on (at actor)) at) (with_count actor (seq_at at actor) ((at actor).had + 1) known) → Agrees counts at known
   agreed-gone agrees = record {
     through = λ a seq within.
         elim (nat_eq a actor) as (λ b. nat_eq a actor ≡ b → (seq ≤ (if b then gone_on (at actor) else at a).through → counts a seq ≡ (if b then (if nat_eq seq (seq_at at actor) then (at actor).had + 1 else known a seq) else known a seq)) → counts a seq ≡ known a seq) [
@@ -166,57 +170,62 @@ module _ (lines : List Line) (at : Standings) (known : TurnCounts) (turns : List
       let more = one_more counts agrees in
       (more.0 ∙ ap (λ now. answered ++ now) (now-none lines counts at actor none) ∙ append-nil answered, more.1 ∙ behind-none lines counts at actor none)
 
-  module _ (call : Call) (is : next_call lines at actor ≡ Some call) (last : IsAtLast call) where
-    -- a turn that doesn't answer its call
-    pub walk_going : IsWalked lines (moved_to actor (going_on (at actor)) at) known (turns ++ actor ∷ []) answered
-    walk_going counts agrees =
+  module _ (call : Call) (is : next_call lines at actor ≡ Some call) (after : List (ℕ × ℕ)) where
+    -- a turn behind which its call goes on
+    pub walk_going : ((count : ℕ) → (at actor).had + 1 < count → after ≡ answered ++ answered_at actor (seq_at at actor) (at actor).had call count)
+        → IsWalked lines (moved_to actor (going_on (at actor)) at) known (turns ++ actor ∷ []) after
+    walk_going places counts agrees =
         let more = one_more counts (agreed-going counts at known actor agrees) in
-        let less = going-count counts at known actor agrees in
-        let not_yet : nat_eq ((at actor).had + 1) (counts actor (seq_at at actor)) ≡ false = grind (arith, nat_tests, less) in (
-          more.0 ∙ ap (λ now. answered ++ now) (now-some lines counts at actor call is last ∙ ap (λ b. if b then (actor, seq_at at actor) ∷ [] else []) not_yet) ∙ append-nil answered,
+        let less = going-count counts at known actor agrees in (
+          more.0 ∙ ap (λ now. answered ++ now) (now-some lines counts at actor call is) ∙ sym (places (counts actor (seq_at at actor)) less),
           more.1 ∙ behind-some lines counts at actor call is ∙ ap (λ standing. moved_to actor standing at) (turned-going (counts actor (seq_at at actor)) (at actor) less),
         )
 
-    -- a turn that answers it
-    pub walk_gone : IsWalked lines (moved_to actor (gone_on (at actor)) at) (with_count actor (seq_at at actor) ((at actor).had + 1) known) (turns ++ actor ∷ []) (answered ++ (actor, seq_at at actor) ∷ [])
-    walk_gone counts agrees =
+    -- a turn behind which it is through
+    pub walk_gone : after ≡ answered ++ answered_at actor (seq_at at actor) (at actor).had call ((at actor).had + 1)
+        → IsWalked lines (moved_to actor (gone_on (at actor)) at) (with_count actor (seq_at at actor) ((at actor).had + 1) known) (turns ++ actor ∷ []) after
+    walk_gone places counts agrees =
         let more = one_more counts (agreed-gone counts at known actor agrees) in
-        let same = gone-count counts at known actor agrees in
-        let now : nat_eq ((at actor).had + 1) (counts actor (seq_at at actor)) ≡ true = grind (arith, nat_tests, same) in (
-          more.0 ∙ ap (λ now. answered ++ now) (now-some lines counts at actor call is last ∙ ap (λ b. if b then (actor, seq_at at actor) ∷ [] else []) now),
+        let same = gone-count counts at known actor agrees in (
+          more.0 ∙ ap (λ now. answered ++ now) (now-some lines counts at actor call is ∙ ap (λ n. answered_at actor (seq_at at actor) (at actor).had call n) same) ∙ sym places,
           more.1 ∙ behind-some lines counts at actor call is ∙ ap (λ standing. moved_to actor standing at) (turned-gone (counts actor (seq_at at actor)) (at actor) same),
         )
 
 -- ---- behind the last turn
 
--- the calls that are left are those of the lines whose number their actor hasn't come to
+-- the calls that are left are those that are ahead
 module _ (counts : TurnCounts) (at : Standings) (known : TurnCounts) (agrees : Agrees counts at known) where
-  is_left-ahead : (line : Line) → IsAtLast line.call → is_left counts at line ≡ nat_lt (at line.actor).through line.seq
-  is_left-ahead line last =
+  is_left-ahead : (line : Line) → is_left counts at line ≡ is_ahead at line
+  is_left-ahead line =
+      let standing = at line.actor in
+      let count = counts line.actor line.seq in
       elim (nat_eq line.seq (seq_at at line.actor)) as (λ b. nat_eq line.seq (seq_at at line.actor) ≡ b
-      → (if b then nat_lt (at line.actor).had (answering_turn line.call (counts line.actor line.seq)) else nat_lt (at line.actor).through line.seq) ≡ nat_lt (at line.actor).through line.seq) [
-        | true ↦ λ first.
-            let is : line.seq ≡ seq_at at line.actor = same_number line.seq (seq_at at line.actor) first in
-            let going : (at line.actor).had < counts line.actor line.seq = subst (λ n. (at line.actor).had < counts line.actor n) (sym is) (agrees.going line.actor) in
-            let one : nat_lt (at line.actor).had (counts line.actor line.seq) ≡ true = grind (arith, nat_tests, going) in
-            let other : nat_lt (at line.actor).through line.seq ≡ true = grind (arith, nat_tests, is) in
-            ap (λ n. nat_lt (at line.actor).had n) (last (counts line.actor line.seq)) ∙ one ∙ sym other
+      → (if b then nat_lt standing.had (answering_turn line.call count) else nat_lt standing.through line.seq)
+      ≡ (if b then nat_lt standing.had (answering_turn line.call (standing.had + 1)) else nat_lt standing.through line.seq)) [
+        | true ↦ λ first. elim (answered_when line.call) [
+          | inl last ↦
+              let is : line.seq ≡ seq_at at line.actor = same_number line.seq (seq_at at line.actor) first in
+              let going : standing.had < count = subst (λ n. standing.had < counts line.actor n) (sym is) (agrees.going line.actor) in
+              let one : nat_lt standing.had count ≡ true = grind (arith, nat_tests, going) in
+              let other : nat_lt standing.had (standing.had + 1) ≡ true = grind (arith, nat_tests) in
+              ap (λ n. nat_lt standing.had n) (last count) ∙ one ∙ sym other ∙ sym (ap (λ n. nat_lt standing.had n) (last (standing.had + 1)))
+          | inr at_once ↦ ap (λ n. nat_lt standing.had n) (at_once count) ∙ sym (ap (λ n. nat_lt standing.had n) (at_once (standing.had + 1)))
+        ]
         | false ↦ λ _. refl
       ] refl
 
-  left_ahead : (lines : List Line) → AllByRecursion (λ line. IsAtLast line.call) lines → filter (is_left counts at) lines ≡ filter (λ line. nat_lt (at line.actor).through line.seq) lines
-  left_ahead [] all = refl
-  left_ahead (line ∷ lines) all =
-      ap (λ b. cond b (line ∷ filter (is_left counts at) lines) (filter (is_left counts at) lines)) (is_left-ahead line all.0)
-      ∙ ap (λ rest. cond (nat_lt (at line.actor).through line.seq) (line ∷ rest) rest) (left_ahead lines all.1)
+  left_ahead : (lines : List Line) → filter (is_left counts at) lines ≡ filter (is_ahead at) lines
+  left_ahead [] = refl
+  left_ahead (line ∷ lines) =
+      ap (λ b. cond b (line ∷ filter (is_left counts at) lines) (filter (is_left counts at) lines)) (is_left-ahead line)
+      ∙ ap (λ rest. cond (is_ahead at line) (line ∷ rest) rest) (left_ahead lines)
 
 -- what the turns of a script answer, and behind them the lines that are left
 pub walk_ends : (lines : List Line) (at : Standings) (known : TurnCounts) (turns : List ℕ) (answered : List (ℕ × ℕ)) → IsWalked lines at known turns answered
-    → (counts : TurnCounts) → Agrees counts at known → AllByRecursion (λ line. IsAtLast line.call) lines
-    → answered_by lines counts at_first turns ≡ answered ++ list_map place_of (filter (λ line. nat_lt (at line.actor).through line.seq) lines)
-walk_ends lines at known turns answered walked counts agrees all =
+    → (counts : TurnCounts) → Agrees counts at known → answered_by lines counts at_first turns ≡ answered ++ list_map place_of (filter (is_ahead at) lines)
+walk_ends lines at known turns answered walked counts agrees =
     let so_far = walked counts agrees in
     answered_by-parts lines counts at_first turns
     ∙ ap (λ (stand : Standings). answered_in lines counts at_first turns ++ left_behind lines counts stand) so_far.1
     ∙ ap (λ so_far. so_far ++ left_behind lines counts at) so_far.0
-    ∙ ap (λ left. answered ++ list_map place_of left) (left_ahead counts at known agrees lines all)
+    ∙ ap (λ left. answered ++ list_map place_of left) (left_ahead counts at known agrees lines)

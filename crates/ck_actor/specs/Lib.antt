@@ -1,8 +1,8 @@
 pub mod Counts
 pub mod Turns
 pub mod Walk
-pub mod Turned
 pub mod Place
 pub mod Completed
 pub mod Actor
+pub mod Turned
 pub mod Played

@@ -1,5 +1,5 @@
 -- Where all actors stand as a script's turns are taken one after another, and what these answer.
-use Rattle.std.specs.Prelude.{◌≡◌, ◌≤◌, ◌<◌, ℕ, ◌+◌, Option, List, [], ◌∷◌, ◌++◌, filter, map as list_map, nat_eq, if◌then◌else◌}
+use Rattle.std.specs.Prelude.{◌≡◌, ◌≤◌, ◌<◌, ℕ, ◌+◌, Bool, Option, List, [], ◌∷◌, ◌++◌, filter, map as list_map, nat_eq, nat_lt, if◌then◌else◌}
 use Rattle.std.specs.Option.{option_map_or}
 use Rattle.ck_model.specs.declared.call.Call.{Call}
 use Rattle.ck_model.specs.History.{call_at}
@@ -26,12 +26,13 @@ next_call lines at actor = call_at (calls_in lines) actor (seq_at at actor)
 abbrev pub behind : List Line → TurnCounts → Standings → ℕ → Standings
 behind lines counts at actor = option_map_or (λ call. with_turn actor (counts actor (seq_at at actor)) at) (next_call lines at actor) at
 
+-- what a turn answers of a call that has had so many turns and takes so many
+abbrev pub answered_at : ℕ → ℕ → ℕ → Call → ℕ → List (ℕ × ℕ)
+answered_at actor seq had call count = if nat_eq (had + 1) (answering_turn call count) then (actor, seq) ∷ [] else []
+
 -- what it answers
 abbrev pub answered_now : List Line → TurnCounts → Standings → ℕ → List (ℕ × ℕ)
-answered_now lines counts at actor =
-    option_map_or
-    (λ call. if nat_eq ((at actor).had + 1) (answering_turn call (counts actor (seq_at at actor))) then (actor, seq_at at actor) ∷ [] else [])
-    (next_call lines at actor) []
+answered_now lines counts at actor = option_map_or (λ call. answered_at actor (seq_at at actor) (at actor).had call (counts actor (seq_at at actor))) (next_call lines at actor) []
 
 -- the same of turns
 abbrev pub standing_after : List Line → TurnCounts → Standings → List ℕ → Standings
@@ -45,6 +46,15 @@ answered_in lines counts at (actor ∷ turns) = answered_now lines counts at act
 -- the calls that are left
 abbrev pub left_behind : List Line → TurnCounts → Standings → List (ℕ × ℕ)
 left_behind lines counts at = list_map place_of (filter (is_left counts at) lines)
+
+-- The call of a line has no entry yet: it comes behind the next one of its actor, or is that one, and takes more turns than it has had
+-- until it is answered.
+abbrev pub ahead_at : Standing → Line → Bool
+ahead_at standing line =
+    if nat_eq line.seq (standing.through + 1) then nat_lt standing.had (answering_turn line.call (standing.had + 1)) else nat_lt standing.through line.seq
+
+abbrev pub is_ahead : Standings → Line → Bool
+is_ahead at line = ahead_at (at line.actor) line
 
 -- an actor stands elsewhere
 abbrev pub moved_to : ℕ → Standing → Standings → Standings

@@ -5,10 +5,11 @@ ghost use Rattle.ck_script.specs.Numbered.{calls_in, numbers_in, IsNumbered};
 ghost use Rattle.ck_files.specs.Built.{IsBuilt};
 ghost use Rattle.ck_volume.specs.Told.{AreAnswered};
 ghost use Rattle.ck_volume.specs.TopCuts.{synced_count};
-ghost use Rattle.ck_volume.specs.Volume.{committed_of, history_of, origin_of, room_of, spoilt_of, told_of};
-ghost use Rattle.ck_actor.specs.Actor.{begins as begun_next, calls_left, number_of, standing_of, HasMoment, IsNew, IsThrough, OnRead, Stands};
+ghost use Rattle.ck_volume.specs.Turn.{UnlessStrip};
+ghost use Rattle.ck_volume.specs.Volume.{committed_of, history_of, origin_of, room_of, spoilt_of, table_of, told_of};
+ghost use Rattle.ck_actor.specs.Actor.{begins as begun_next, calls_left, number_of, HasFewer, HasMoment, IsNew, IsThrough, OnWay, Stands};
 ghost use Rattle.ck_actor.specs.Place.{IsFound};
-ghost use Rattle.ck_actor.specs.Turned.{answered_by_now, IsTurn};
+ghost use Rattle.ck_actor.specs.Turned.{answered_by_now, IsTurnOf};
 ghost use Rattle.ck_actor.specs.declared.actor.ActorTurn.TheVariants.{Through};
 
 use crate::place::Place;
@@ -22,11 +23,11 @@ use std::alloc::Global;
 #[derive(Clone, Copy, Debug, PartialEq, Eq)]
 pub enum ActorTurn {
     More,
-    /// Every call of the actor was answered.
+    /// Every call of the actor was answered, and none is on its way.
     Through,
 }
 
-/// An actor of a script: which of its calls were answered, and how far the next one has come.
+/// An actor of a script: which of its calls are through, and how far the next one has come.
 #[derive(Drop)]
 pub struct Actor {
     place: Place,
@@ -48,7 +49,7 @@ impl Actor {
     }
 
     /// The number of the call that its next turn begins. There is none where that turn goes on with a
-    /// call that was begun, or where all its calls were answered.
+    /// call that was begun, or where all its calls are through.
     pub fn begins(&self, script: &Script) -> Option<u32>
         ensures { result ≡ begun_next script.now.calls self.now }
     {
@@ -58,7 +59,7 @@ impl Actor {
         }
     }
 
-    /// Whether the call of this line, which is its own, isn't answered yet.
+    /// Whether the call of this line, which is its own, isn't through yet.
     pub(crate) fn is_left(&self, line: usize) -> bool
         ensures { result ≡ nat_le self.now.place.line line }
     {
@@ -67,11 +68,11 @@ impl Actor {
 
     /// Goes to the line of its next call, unless one is on its way.
     fn seek(&mut self, lines: &[Line])
-        requires { OnRead self.old.progress (IsFound lines.now self.old.place) }
+        requires { OnWay self.old.progress (IsFound lines.now self.old.place) }
         ensures found { IsFound lines.now self.new.place }
         ensures actor { self.new.place.actor ≡ self.old.place.actor }
         ensures between { numbers_in (take self.new.place.line lines.now) self.old.place.actor ≡ numbers_in (take self.old.place.line lines.now) self.old.place.actor }
-        ensures on_read { OnRead self.old.progress (self.new.place ≡ self.old.place) }
+        ensures on_way { OnWay self.old.progress (self.new.place ≡ self.old.place) }
         ensures progress { self.new.progress ≡ self.old.progress }
         ensures began { self.new.began ≡ self.old.began }
     {
@@ -85,7 +86,7 @@ impl Actor {
     fn note_moment<C: Clock>(&mut self, clock: &mut C)
         requires moment { HasMoment (C.means clock.old) self.old }
         ensures told { IsTrue (C.means clock.old).tells → self.new.began ≡ (C.means clock.old).moment }
-        ensures kept { OnRead self.old.progress (self.new.began ≡ self.old.began) }
+        ensures kept { OnWay self.old.progress (self.new.began ≡ self.old.began) }
         ensures place { self.new.place ≡ self.old.place }
         ensures progress { self.new.progress ≡ self.old.progress }
         ensures clock { C.means clock.new ≡ C.means clock.old }
@@ -102,14 +103,15 @@ impl Actor {
         requires found { IsFound lines.now self.old.place }
         requires left { self.old.place.line < length lines.now }
         requires stands { Stands (D.means (origin_of volume.old)) (told_of volume.old) lines.now (history_of volume.old) self.old }
-        requires room { 0 < room_of volume.old }
+        requires room { UnlessStrip self.old.progress (0 < room_of volume.old) }
         requires unspoilt { spoilt_of volume.old ≡ None }
         requires built { AllByRecursion (λ line. IsBuilt line.call) lines.now }
         ensures found { IsFound lines.now self.new.place }
         ensures stands { Stands (D.means (origin_of volume.new)) (told_of volume.new) lines.now (history_of volume.new) self.new }
         ensures began { self.new.began ≡ self.old.began }
         ensures number { number_of self.new ≡ number_of self.old }
-        ensures turn { IsTurn (D.means (origin_of volume.old)) lines.now (number_of self.old) (standing_of lines.now self.old) (standing_of lines.now self.new) (answered_by_now volume.old) (answered_by_now volume.new) }
+        ensures turn { IsTurnOf (D.means (origin_of volume.old)) lines.now (number_of self.old) self.old self.new (answered_by_now volume.old) (answered_by_now volume.new) }
+        ensures fewer { HasFewer self.old (table_of volume.old) self.new (table_of volume.new) }
         ensures room { room_of volume.new + length (history_of volume.new) ≡ room_of volume.old + length (history_of volume.old) }
         ensures answered { AreAnswered (call_at (calls_in lines.now)) (told_of volume.old) (history_of volume.old)
             → AreAnswered (call_at (calls_in lines.now)) (told_of volume.new) (history_of volume.new) }
@@ -148,7 +150,8 @@ impl Actor {
         ensures stands { Stands (D.means (origin_of volume.new)) (told_of volume.new) lines.now (history_of volume.new) self.new }
         ensures moment { HasMoment (C.means clock.new) self.new }
         ensures number { number_of self.new ≡ number_of self.old }
-        ensures turn { IsTurn (D.means (origin_of volume.old)) lines.now (number_of self.old) (standing_of lines.now self.old) (standing_of lines.now self.new) (answered_by_now volume.old) (answered_by_now volume.new) }
+        ensures turn { IsTurnOf (D.means (origin_of volume.old)) lines.now (number_of self.old) self.old self.new (answered_by_now volume.old) (answered_by_now volume.new) }
+        ensures fewer { HasFewer self.old (table_of volume.old) self.new (table_of volume.new) }
         ensures room { room_of volume.new + length (history_of volume.new) ≡ room_of volume.old + length (history_of volume.old) }
         ensures answered { AreAnswered (call_at (calls_in lines.now)) (told_of volume.old) (history_of volume.old)
             → AreAnswered (call_at (calls_in lines.now)) (told_of volume.new) (history_of volume.new) }
@@ -189,13 +192,15 @@ impl Actor {
         requires room { calls_left script.now.calls self.old ≤ room_of volume.old }
         requires unspoilt { spoilt_of volume.old ≡ None }
         requires built { AllByRecursion (λ line. IsBuilt line.call) script.now.calls }
-        ensures through { (result ≡ Through) ↔ IsThrough script.now.calls (history_of volume.new) (number_of self.old) }
+        ensures through { (result ≡ Through) ↔ IsThrough script.now.calls (history_of volume.new) self.new }
         ensures stands { Stands (D.means (origin_of volume.new)) (told_of volume.new) script.now.calls (history_of volume.new) self.new }
         ensures moment { HasMoment (C.means clock.new) self.new }
         ensures number { number_of self.new ≡ number_of self.old }
 
-        // Nothing where no call is left; else its next call has had one turn more, or is answered by the one entry that comes.
-        ensures turn { IsTurn (D.means (origin_of volume.old)) script.now.calls (number_of self.old) (standing_of script.now.calls self.old) (standing_of script.now.calls self.new) (answered_by_now volume.old) (answered_by_now volume.new) }
+        // Nothing where no call is left; else its next call has had one turn more, or is through, and one entry comes where that turn
+        // answers it.
+        ensures turn { IsTurnOf (D.means (origin_of volume.old)) script.now.calls (number_of self.old) self.old self.new (answered_by_now volume.old) (answered_by_now volume.new) }
+        ensures fewer { HasFewer self.old (table_of volume.old) self.new (table_of volume.new) }
         ensures room { room_of volume.new + length (history_of volume.new) ≡ room_of volume.old + length (history_of volume.old) }
         ensures answered { AreAnswered (call_at (calls_in script.now.calls)) (told_of volume.old) (history_of volume.old)
             → AreAnswered (call_at (calls_in script.now.calls)) (told_of volume.new) (history_of volume.new) }

@@ -8,7 +8,7 @@ use ck_script::Line;
 #[derive(Clone, Copy, Debug)]
 pub struct Place {
     pub actor: u32,
-    /// Its calls in the lines before this one, counted from 0, were answered.
+    /// Its calls in the lines before this one, counted from 0, are through.
     pub line: usize,
 }
 

@@ -1,4 +1,4 @@
-ghost use Rattle.std.specs.Prelude.{◌≡◌, ◌≤◌, ◌<◌, ◌+◌, suc, [], None, OnOk, OnErr, IfOk, IsTrue, length, take as list_take};
+ghost use Rattle.std.specs.Prelude.{◌≡◌, ◌≤◌, ◌<◌, ◌+◌, suc, [], None, Some, OnOk, OnErr, IfOk, IsTrue, length, slice_get, take as list_take};
 ghost use Rattle.std.specs.List.{AllByRecursion};
 ghost use Rattle.ck_model.specs.History.{IsOfScript, call_at};
 ghost use Rattle.ck_model.specs.Streams.{Texts};
@@ -10,6 +10,8 @@ ghost use Rattle.ck_engine.specs.Recovery.{Recovers};
 ghost use Rattle.ck_volume.specs.Told.{AreAnswered};
 ghost use Rattle.ck_volume.specs.TopCuts.{synced_count};
 ghost use Rattle.ck_volume.specs.Volume.{broken_of, committed_of, disk_of, history_of, origin_of, spoilt_of, table_of, told_of, IsBegun};
+ghost use Rattle.ck_actor.specs.declared.actor.Actor.{Actor as ActorOf};
+ghost use Rattle.ck_actor.specs.Actor.{HasFewer};
 ghost use Rattle.ck_actor.specs.Counts.{TurnCounts};
 ghost use Rattle.ck_actor.specs.Played.{AreBegun, AreFinished, AreTurned, HasStepped, IsPlaying, IsUnderWay};
 ghost use Rattle.ck_actor.specs.Turns.{parsed, Follows};
@@ -48,6 +50,7 @@ fn take_own<D: Disk, C: Clock>(
     requires built { AllByRecursion (λ line. IsBuilt line.call) script.now.calls }
     ensures stepped { (at : Standings) (known : TurnCounts) → IsUnderWay D.means (origin_of volume.old) (C.means clock.old) script.now.calls volume.old actors.old at known
         → HasStepped D.means (origin_of volume.old) (C.means clock.old) script.now.calls (suc place) at known volume.old volume.new actors.new }
+    ensures fewer { (was moved : ActorOf) → slice_get actors.old place ≡ Some was → slice_get actors.new place ≡ Some moved → HasFewer was (table_of volume.old) moved (table_of volume.new) }
     ensures clock { C.means clock.new ≡ C.means clock.old }
 {
     actors[place].turn(alloc, volume, clock, script);
@@ -95,7 +98,7 @@ fn take_all<D: Disk, C: Clock>(
     }
 }
 
-/// Takes an actor's turns until the call of its line is answered.
+/// Takes an actor's turns until the call of its line is through.
 fn finish<D: Disk, C: Clock>(
     alloc: Global,
     volume: &mut Volume<D>,
@@ -117,7 +120,7 @@ fn finish<D: Disk, C: Clock>(
     }
 }
 
-/// Answers the calls that are left, in the order of their lines.
+/// Answers the calls that are left, in the order of their lines, each to its end.
 fn finish_all<D: Disk, C: Clock>(
     alloc: Global,
     volume: &mut Volume<D>,

@@ -1,7 +1,7 @@
 -- What is built of the grammar today. Every other line is refused.
-use Rattle.std.specs.Prelude.{◌&&◌, Bool, true, false, not}
+use Rattle.std.specs.Prelude.{Bool, true, false, not}
 use Rattle.ck_model.specs.declared.call.Call.{Call}
-use Rattle.ck_model.specs.declared.call.Call.TheVariants.{Create, Nodata, Removable, Restore, Backup, Full}
+use Rattle.ck_model.specs.declared.call.Call.TheVariants.{Create, Removable, Restore, Backup, Full}
 use Rattle.ck_script.specs.declared.form.Form.{Form}
 use Rattle.ck_script.specs.declared.form.Form.TheVariants.{Called, Turned}
 

@@ -50,10 +50,10 @@ OnStrip progress.Fresh P = ⊤
 OnStrip (progress.Read read) P = ⊤
 OnStrip (progress.Strip id) P = P id
 
--- a read goes on
+-- the call goes on, and doesn't strip
 abbrev pub OnReading : Turn → Progress → Type 0 → Type 0
 OnReading Answered now X = ⊤
-OnReading More progress.Fresh X = ⊤
+OnReading More progress.Fresh X = X
 OnReading More (progress.Read read) X = X
 OnReading More (progress.Strip id) X = ⊤
 

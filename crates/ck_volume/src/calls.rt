@@ -189,6 +189,9 @@ impl<D: Disk> Volume<D> {
         // Bytes of a checkpoint come with the last block that they touch, or at once where they touch none.
         ensures last { OnEntry progress.old result progress.new (IsLastOf call.now (newest (history_of self.new)).reply (had_of progress.old + 1)) }
 
+        // A call goes on behind its entry only where it was done.
+        ensures done { OnEntry progress.old result progress.new (OnMore result ((newest (history_of self.new)).reply ≡ reply.Done)) }
+
         // A checkpoint costs one record where one is free: nothing is copied. Its removal marks that record alone, and so does
         // its conversion.
         ensures freezes { OnEntry progress.old result progress.new (Freezes call.now at (newest (history_of self.new)).reply (table_of self.old) (table_of self.new)) }
