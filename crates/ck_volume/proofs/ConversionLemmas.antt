@@ -42,8 +42,8 @@ use Rattle.ck_volume.specs.Conversion.{strip_begun, ConvertsBy, ConvertsNamed, S
 use Rattle.ck_volume.specs.Event.{IsEntryOf}
 use Rattle.ck_volume.specs.Kept.{Stands}
 use Rattle.ck_volume.specs.Present.{Present, history_of}
-use Rattle.ck_volume.specs.Progress.{IsSynchronous, FitsHistory, FitsStrip, StripsNamed}
-use Rattle.ck_volume.specs.Turn.{OnAnswered, OnEntry, OnMore, StripsOn}
+use Rattle.ck_volume.specs.Progress.{strip_of, IsSynchronous, FitsHistory, FitsStrip, StripsNamed}
+use Rattle.ck_volume.specs.Turn.{entries_had, OnAnswered, OnEntry, OnMore, StripsOn}
 use Rattle.ck_volume.specs.Volume.{broken_of, committed_of, disk_of, origin_of, past_on, room_of, spoilt_of, table_of, told_of, KeepsLog}
 use Rattle.ck_volume.proofs.CallsLemmas.{numbers-more}
 use Rattle.ck_volume.proofs.ToldLaws.{answered-before}
@@ -268,3 +268,13 @@ module _ {D : Type 0} {g : Ghosts D} (means : D → Meaning) (mid new : Volume D
   pub begun_more : (o : Option ℕ) → Strips o → IsThrough o → turn ≡ More → (id : ℕ) × ((o ≡ Some id) × (now ≡ Strip id))
   begun_more (Some id) strips through more = (id, (refl, (subst (λ (t : Turn). OnMore t ((now ≡ Strip id) × (unstripped_count (table_of new) + 1 ≡ unstripped_count (table_of mid)))) more strips.more).0))
   begun_more None strips through more = absurd (not_more turn more through.0)
+
+-- ---- a call that doesn't strip yet
+
+pub entries_had_none : (p : Progress) → ((id : ℕ) → strip_of p ≡ Some id → ⊥) → entries_had p ≡ 0
+entries_had_none Fresh none = refl
+entries_had_none (Read read) none = refl
+entries_had_none (Strip id) none = absurd (none id refl)
+
+pub add_none : (n had : ℕ) → had ≡ 0 → n ≡ n + had
+add_none n had none = omega (arith, none)

@@ -11,7 +11,7 @@ use Rattle.ck_volume.specs.Event.{newest, Follows}
 use Rattle.ck_volume.specs.Present.{present}
 use Rattle.ck_volume.specs.Progress.{FitsHistory}
 use Rattle.ck_volume.specs.Volume.{broken_of, disk_of, history_of, length_of, origin_of, past_on, present_of, table_of, told_of}
-use Rattle.ck_volume.proofs.ConversionLemmas.{begun_done, begun_log, begun_more, begun_past, begun_stayed, begun_went, converts_first, fits_begun, if_more, on_entry, unbroken_done}
+use Rattle.ck_volume.proofs.ConversionLemmas.{add_none, begun_done, begun_log, begun_more, begun_past, begun_stayed, begun_went, converts_first, entries_had_none, fits_begun, if_more, on_entry, unbroken_done}
 use Rattle.ck_volume.proofs.StoodLaws.{stood, ready-known}
 use Rattle.ck_volume.proofs.volume.Volume.event.Goals as goal
 
@@ -99,8 +99,27 @@ returns-in-Answered-clause-fits g c =
     let unbroken = (unbroken_done (broken_of old) (broken_of mid) (length_of old) entry.reply (begun_done call entry.reply (table_of mid) more.0 more.1.0) answered.refused answered.broken).0 in
     let whole = ready-known here (present_of old) old.kept.ready unbroken in
     let fits : FitsHistory origin (told_of old ++ call ∷ []) (history_of old ++ entry ∷ []) c.args.actor call (Strip more.0) =
-    fits_begun origin here (told_of old) (present_of old) (stood origin here (told_of old) (present_of old) old.kept.stands) whole.files.ours.lawful entry c.args.actor c.args.seq c.args.at answered.entry c.requires.number call (table_of mid) answered.converts more.0 more.1.0 in
+    fits_begun origin here (told_of old) (present_of old) (stood origin here (told_of old) (present_of old) old.kept.stands) whole.files.ours.lawful entry c.args.actor c.args.seq c.args.at answered.entry (add_none c.args.seq _ (entries_had_none c.args.progress.now (λ id is. c.in_default.not-Some id (c.strip_id.ensures ∙ is))) ∙ c.requires.number) call (table_of mid) answered.converts more.0 more.1.0 in
     subst (λ (p : Progress). FitsHistory (means (origin_of new)) (told_of new) (history_of new) c.args.actor call p) (sym more.1.1)
     (subst (λ d. FitsHistory (means d) (told_of new) (history_of new) c.args.actor call (Strip more.0)) (sym (log.origin ∙ answered.origin))
     (subst (λ (told : List Call). FitsHistory origin told (history_of new) c.args.actor call (Strip more.0)) (sym (log.told ∙ answered.told))
     (subst (λ (h : List Entry). FitsHistory origin (told_of old ++ call ∷ []) h c.args.actor call (Strip more.0)) (sym (log.history ∙ answered.added)) fits))))
+
+-- ---- a call goes on behind its entry
+
+pub returns-in-Answered-clause-done : goal.returns-in-Answered-clause-done
+returns-in-Answered-clause-done g c =
+    let means = g.D.Disk.means in
+    let call = c.args.call.now in
+    let mid = c.answer.new.self in
+    let new = c.begin_strip.new.self in
+    let turn = c.begin_strip.result in
+    let now = c.begin_strip.new.progress in
+    let said = (newest (history_of mid)).reply in
+    let begun : Option ℕ = strip_begun call said (table_of mid) in
+    let strips = c.begin_strip.ensures.strips in
+    let through = c.begin_strip.ensures.through in
+    let log = begun_log means mid new turn now begun strips through in
+    on_entry c.args.progress.now turn now (if_more turn (λ is_more.
+    let more = begun_more means mid new turn now begun strips through is_more in
+    ap (λ (h : List Entry). (newest h).reply) log.history ∙ begun_done call said (table_of mid) more.0 more.1.0))
