@@ -1,15 +1,13 @@
 pub mod WorldLaws
-pub mod LiveLemmas
-pub mod Checkpoints
+pub mod PlainLemmas
 pub mod UnseenLemmas
 pub mod AlikeLemmas
-pub mod RoomLaws
+pub mod RoomLemmas
 pub mod AllocatedLaws
 pub mod StandsLaws
 pub mod NamedLaws
 pub mod UseLemmas
 pub mod Listed
-pub mod RemovalLemmas
 pub mod MountLemmas
 pub mod CreateLemmas
 pub mod WorldAfter

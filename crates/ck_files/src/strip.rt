@@ -47,6 +47,7 @@ pub(crate) fn strip_next<M: Meta>(
     ensures allocated { IsAllocated (M.table meta.new) blocks.new }
     ensures busy { KeepsBusy blocks.old blocks.new }
     ensures stripped { IsStrippedTo (M.table meta.new) stripped.new }
+    ensures filesets { (M.table meta.new).filesets ≡ (M.table meta.old).filesets }
     ensures left { result ≡ true → unstripped_count (M.table meta.new) + 1 ≡ unstripped_count (M.table meta.old) }
     ensures untouched { result ≡ false → M.table meta.new ≡ M.table meta.old }
     ensures none { result ≡ false → unstripped_count (M.table meta.new) ≡ 0 }
@@ -55,7 +56,8 @@ pub(crate) fn strip_next<M: Meta>(
         Some(item) => {
             let freed = strip(meta, item);
             give_up(blocks, freed);
-            *stripped = item;
+            stripped.id = item.id;
+            stripped.key = item.key;
             true
         }
         None => {
