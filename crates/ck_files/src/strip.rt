@@ -52,19 +52,14 @@ pub(crate) fn strip_next<M: Meta>(
     ensures untouched { result ≡ false → M.table meta.new ≡ M.table meta.old }
     ensures none { result ≡ false → unstripped_count (M.table meta.new) ≡ 0 }
 {
-    match strip_work_behind(meta, *stripped) {
-        Some(item) => {
-            let freed = strip(meta, item);
-            give_up(blocks, freed);
-            stripped.id = item.id;
-            stripped.key = item.key;
-            true
-        }
-        None => {
-            stripped.id = LAST_ID;
-            false
-        }
-    }
+    let Some(item) = strip_work_behind(meta, *stripped) else {
+        stripped.id = LAST_ID;
+        return false;
+    };
+    *stripped = item;
+    let freed = strip(meta, *stripped);
+    give_up(blocks, freed);
+    true
 }
 
 /// Whether a data block of this checkpoint is left to strip.
