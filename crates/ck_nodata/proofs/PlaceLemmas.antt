@@ -126,7 +126,7 @@ found_newer t last done none =
       | inr ge ↦ let same : last.id ≡ fs = omega (arith, le, ge) in subst (λ n. strip_in t n None ≡ None) same (sym (same_in t last done) ∙ none)
     ])
 
-none_is : (o : Option StripItem) → is_some o ≡ false → o ≡ None
+pub none_is : (o : Option StripItem) → is_some o ≡ false → o ≡ None
 none_is None h = refl
 none_is (Some item) h = absurd (true≢false h)
 

@@ -1,14 +1,15 @@
 -- What is found of what is left to strip, and a checkpoint of which nothing is left.
-use Rattle.std.proofs.Common.{◌≡◌, ℕ, zero, suc, ◌<◌, ◌≤◌, true, false, ◌⊎◌, inl, inr, Option, Some, None, IfSome, is_some, refl, sym, ap, subst, ◌∙◌, arith}
-use Rattle.std.proofs.lemmas.Bool.{cases_lt, false≢true}
+use Rattle.std.proofs.Common.{◌≡◌, ℕ, zero, suc, ◌<◌, ◌≤◌, true, false, ◌⊎◌, inl, inr, Option, Some, None, IfSome, IsSome, is_some, refl, sym, ap, subst, ◌∙◌, arith}
+use Rattle.std.proofs.lemmas.Bool.{false≢true}
 use Rattle.ck_model.specs.declared.key.Key.{Key}
 use Rattle.ck_model.specs.Table.{Table, IsTable}
-use Rattle.ck_model.specs.Chain.{is_live, keeps_data}
+use Rattle.ck_model.specs.Chain.{is_live}
+use Rattle.ck_model.proofs.CaseLaws.{some_is, true_or_false}
 use Rattle.ck_nodata.specs.declared.item.StripItem.{StripItem}
 use Rattle.ck_nodata.specs.StripItem.{IsStrippedTo, is_unstripped, strip_in, strip_work_of, unstripped_count}
 use Rattle.ck_nodata.specs.Stripped.{IsThrough}
 use Rattle.ck_nodata.proofs.HeldLaws.{none_where_zero, zero_where_none}
-use Rattle.ck_nodata.proofs.PlaceLemmas.{none_lower, same_in}
+use Rattle.ck_nodata.proofs.PlaceLemmas.{none_is, none_lower, same_in}
 use Rattle.ck_nodata.proofs.WorkLemmas.{none_left, strip_in_is, through_where_none, work_is}
 
 -- what is found is left to strip
@@ -26,34 +27,31 @@ some_left t fs key left = elim (unstripped_count t) as (λ n. unstripped_count t
   | suc n ↦ λ _. omega arith
 ] refl
 
-pub some_in : (t : Table) (fs : ℕ) (after : Option Key) (item : StripItem) → strip_in t fs after ≡ Some item → 0 < unstripped_count t
-some_in t fs after item found = some_left t item.id item.key (subst (λ o. IfSome o (λ (i : StripItem). is_unstripped t i.id i.key ≡ true)) found (strip_in_is t fs after))
+-- also where one is found of one checkpoint
+pub some_found : (t : Table) (fs : ℕ) (after : Option Key) → IsSome (strip_in t fs after) → 0 < unstripped_count t
+some_found t fs after found =
+    let item = some_is (strip_in t fs after) found in
+    some_left t item.0.id item.0.key (subst (λ o. IfSome o (λ (i : StripItem). is_unstripped t i.id i.key ≡ true)) item.1 (strip_in_is t fs after))
 
 -- ---- nothing is left of one checkpoint
 
 module _ (t : Table) (fs : ℕ) where
-  over_where_none : strip_in t fs None ≡ None → (is_live t fs ≡ false) ⊎ IsThrough t fs
-  over_where_none none = elim (is_live t fs) as (λ b. is_live t fs ≡ b → (is_live t fs ≡ false) ⊎ IsThrough t fs) [
-    | true ↦ λ live. inr (through_where_none t fs live none)
+  -- none is found of it
+  pub over_bare : is_some (strip_in t fs None) ≡ false → (is_live t fs ≡ false) ⊎ IsThrough t fs
+  over_bare none = elim (is_live t fs) as (λ b. is_live t fs ≡ b → (is_live t fs ≡ false) ⊎ IsThrough t fs) [
+    | true ↦ λ live. inr (through_where_none t fs live (none_is (strip_in t fs None) none))
     | false ↦ λ gone. inl gone
   ] refl
 
   -- it is older than the one up to which nothing is left
   pub over_before : (last : StripItem) → IsStrippedTo t last → fs < last.id → (is_live t fs ≡ false) ⊎ IsThrough t fs
-  over_before last done lower = over_where_none (none_lower t last done fs lower)
+  over_before last done lower = over_bare (ap is_some (none_lower t last done fs lower))
 
-  -- it is that one, and has none behind
-  pub over_behind : (last : StripItem) → IsStrippedTo t last → fs ≡ last.id → strip_in t fs (Some last.key) ≡ None → (is_live t fs ≡ false) ⊎ IsThrough t fs
+  -- it is that one, and none is found behind
+  pub over_behind : (last : StripItem) → IsStrippedTo t last → fs ≡ last.id → is_some (strip_in t fs (Some last.key)) ≡ false → (is_live t fs ≡ false) ⊎ IsThrough t fs
   over_behind last done same none =
-      over_where_none (ap (λ n. strip_in t n None) same ∙ sym (same_in t last done) ∙ ap (λ n. strip_in t n (Some last.key)) (sym same) ∙ none)
-
-  -- it is newer, and has none
-  pub over_newer : strip_in t fs None ≡ None → (is_live t fs ≡ false) ⊎ IsThrough t fs
-  over_newer none = over_where_none none
+      over_bare (ap (λ n. is_some (strip_in t n None)) same ∙ ap is_some (sym (same_in t last done)) ∙ ap (λ n. is_some (strip_in t n (Some last.key))) (sym same) ∙ none)
 
   -- none is left at all
-  pub over_drained : IsTable t → unstripped_count t ≡ 0 → (is_live t fs ≡ false) ⊎ IsThrough t fs
-  over_drained lawful nothing = over_where_none (elim (strip_in t fs None) as (λ o. strip_in t fs None ≡ o → o ≡ None) [
-    | None ↦ λ _. refl
-    | Some item ↦ λ found. let some = some_in t fs None item found in absurd (omega (arith, some, nothing))
-  ] refl)
+  pub over_drained : unstripped_count t ≡ 0 → (is_live t fs ≡ false) ⊎ IsThrough t fs
+  over_drained nothing = over_bare (true_or_false (is_some (strip_in t fs None)) (λ found. let some = some_found t fs None found in omega (arith, some, nothing)))
