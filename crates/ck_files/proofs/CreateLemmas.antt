@@ -148,13 +148,3 @@ module _ (store : Store) (mounts : Mounts) (t : Table) (ours : IsOurs t) (name :
         | Ok id ↦ λ is. created-full drained id is none
         | Err fault ↦ λ is. created-refused fault is
       ] refl
-
-given_next : (exists many spent : Bool) (next id : ℕ) → (if exists then Err fault.Exists else (if many then Err fault.TooMany else (if spent then Err fault.Spent else Ok next))) ≡ Ok id → next ≡ id
-given_next true many spent next id h = cc
-given_next false true spent next id h = cc
-given_next false false true next id h = cc
-given_next false false false next id h = cc
-
--- the new id is the next one
-pub new_id-next : (t : Table) (name : List ℕ) (id : ℕ) → new_id t name ≡ Ok id → t.counters.id ≡ id
-new_id-next t name id h = given_next (is_some (id_named t name)) (nat_le 64 (length (live_ids t))) (nat_eq t.counters.id 4294967295) t.counters.id id h

@@ -2,6 +2,7 @@ pub mod WorldLaws
 pub mod PlainLemmas
 pub mod UnseenLemmas
 pub mod AlikeLemmas
+pub mod DrainLemmas
 pub mod RoomLemmas
 pub mod AllocatedLaws
 pub mod StandsLaws
@@ -9,6 +10,7 @@ pub mod NamedLaws
 pub mod UseLemmas
 pub mod Listed
 pub mod MountLemmas
+pub mod CheckpointLemmas
 pub mod CreateLemmas
 pub mod WorldAfter
 pub mod MadeLemmas
