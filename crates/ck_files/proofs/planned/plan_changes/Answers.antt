@@ -32,5 +32,5 @@ returns-in-Err-make_room-clause-planned g c =
     let lack : IsLacking u changes c.in-Err-make_room.reply = subst (λ (items : List Change). IsLacking u items c.in-Err-make_room.reply) c.deref.ensures.value c.in-Err-make_room.ensures.lack in (
       lack-ordinary u (write_count changes) (gains u changes - losses u changes) c.in-Err-make_room.reply lack.reply,
       λ store mounts.
-          planned-full store mounts u call changes c.in-Err-make_room.ensures.files.ours plan lack.none (write_count changes) (gains u changes - losses u changes) c.in-Err-make_room.reply refl refl lack.full lack.reply,
+          planned-full store mounts u call changes c.in-Err-make_room.ensures.files.ours plan lack.drained (write_count changes) (gains u changes - losses u changes) c.in-Err-make_room.reply refl refl lack.full lack.reply,
     )
