@@ -1,8 +1,9 @@
 -- Where it is known that the files are whole, but not in which way, they are: tests decide between the ways.
-use Rattle.std.proofs.Common.{◌≡◌, ◌≢◌, ℕ, Bool, true, false, Option, Some, None, IsSomeAnd, ◌⊎◌, inl, inr, refl, ap}
+use Rattle.std.proofs.Common.{◌≡◌, ◌≢◌, ◌<◌, ℕ, Bool, true, false, Option, Some, None, IsSomeAnd, ◌⊎◌, inl, inr, refl, ap, arith}
 use mathlib.Core.Logic.{∥∥₁_elim, ∥∥₁_map}
 use mathlib.Core.Bool.{false≢true}
 use Rattle.std.proofs.Props.{props}
+use Rattle.std.proofs.lemmas.Bool.{cases_lt}
 use Rattle.std.proofs.lemmas.Bool.Decides.{eqb_tells}
 use Rattle.ck_disk.specs.Disk.{Meaning}
 use Rattle.ck_model.specs.declared.key.Key.{Key}
@@ -14,6 +15,8 @@ use Rattle.ck_model.specs.Chain.{is_gone}
 use Rattle.ck_model.specs.Key.{spelled, spelled_alike}
 use Rattle.ck_model.specs.Rules.{KeyBelow, HeldBelow, IsOwn, IsOrderly, IsSound, first_holder}
 use Rattle.ck_model.specs.Table.{Table, column, newer}
+use Rattle.ck_chain.specs.Order.{is_behind}
+use Rattle.ck_nodata.specs.declared.item.StripItem.{StripItem}
 use Rattle.ck_slots.specs.Lawful.{IsTable-prop}
 use Rattle.ck_engine.specs.declared.engine.Engine.{Engine}
 use Rattle.ck_files.specs.Plain.{IsOurs}
@@ -86,6 +89,13 @@ ours t known = record {
   plain = ∥∥₁_elim known (hlevel props) (λ r. r.plain);
 }
 
+place : (last : StripItem) (fs : ℕ) (key : Key) → ∥ (last.id < fs) ⊎ ((fs ≡ last.id) × (is_behind last.key key ≡ true)) ∥₁ → (last.id < fs) ⊎ ((fs ≡ last.id) × (is_behind last.key key ≡ true))
+place last fs key known =
+    elim (cases_lt last.id fs) [
+      | inl less ↦ inl less
+      | inr most ↦ inr (∥∥₁_elim known (hlevel props) (elim [ inl less ↦ absurd (omega (arith, less, most)) | inr here ↦ here ]))
+    ]
+
 pub whole-known : {D : Type 0} (m : Meaning) (engine : Engine D) → ∥ IsWhole m engine ∥₁ → IsWhole m engine
 whole-known m engine known = record {
   files = record {
@@ -98,4 +108,5 @@ whole-known m engine known = record {
   records = ∥∥₁_elim known (hlevel props) (λ r. r.records);
   size = ∥∥₁_elim known (hlevel props) (λ r. r.size);
   settled = ∥∥₁_elim known (hlevel props) (λ r. r.settled);
+  stripped = λ fs key left. place engine.stripped fs key (∥∥₁_map known (λ r. r.stripped fs key left));
 }

@@ -51,8 +51,11 @@ use Rattle.ck_files.specs.Places.{with_places, AreDistinct, ArePlaced, AreHeld}
 use Rattle.ck_files.specs.Plain.{IsOurs}
 use Rattle.ck_files.specs.Room.{has_room, lack_of_room, answered_with}
 use Rattle.ck_tree.proofs.MapLaws.{stands_on as stands}
+use Rattle.ck_nodata.specs.declared.item.StripItem.{StripItem}
+use Rattle.ck_nodata.specs.StripItem.{IsStrippedTo}
+use Rattle.ck_nodata.proofs.PlaceLaws.{stripped_changed_all}
 use Rattle.ck_files.proofs.NamedLaws.{extent_is, is-named, named-is}
-use Rattle.ck_files.proofs.ChangeLemmas.{changing-full, changing-fits}
+use Rattle.ck_files.proofs.ChangeLemmas.{changing-full, changing-fits, raised_lawful, raised_sound}
 use Rattle.ck_files.proofs.PlacedLemmas.{IsPlace, placed_gains, placed_losses, placed_first, placed_blocks, room_records, planned_up, planned_raised, planned_may, planned-fits}
 
 -- the numbers that are given next after it
@@ -98,3 +101,12 @@ module _ (t : Table) (c : Call) (changes new : List Change) (after : Allocation)
       planned-fits store mounts t c changes ours plan other placed.places t.blocks placed.many placed.distinct are (omega arith) most same
       (subst (AreHeld (block_by (world_on store mounts t) c) other) placed.are held) room refl u
       (is ∙ ap (λ items. changed_all (raised t (numbers_after c t.counters) t.blocks) items t.counters.stamp) placed.are)
+
+  -- no data block is left to strip where none was
+  pub stored_stripped : (last : StripItem) → IsStrippedTo t last → (u : Table) → u ≡ changed_all (raised t (numbers_after c t.counters) t.blocks) new t.counters.stamp → IsStrippedTo u last
+  stored_stripped last done u is =
+      let next = numbers_after c t.counters in
+      let up = after_raised t c changes ours plan in
+      let below = (planned_up (λ block. []) map.empty t c changes ours plan).stamp in
+      subst (λ (x : Table). IsStrippedTo x last) (sym is)
+      (stripped_changed_all (raised t next t.blocks) new t.counters.stamp last (raised_lawful t next t.blocks ours.lawful up) (raised_sound t next t.blocks ours.sound up) below stored_may done)
