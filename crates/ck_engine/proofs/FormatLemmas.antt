@@ -1,6 +1,7 @@
 -- A volume as it is made.
-use Rattle.std.proofs.Common.{◌≡◌, ℕ, ◌||◌, ◌≤◌, false, is_some, IsTrue, None, Some, [], refl, sym, ap, subst, ◌∙◌}
+use Rattle.std.proofs.Common.{◌≡◌, ℕ, ◌&&◌, ◌||◌, ◌≤◌, false, not, is_some, IsTrue, Option, None, Some, [], refl, sym, ap, subst, ◌∙◌}
 use mathlib.Core.Bool.{false≢true}
+use Rattle.std.specs.Option.{option_map_or}
 use Rattle.std.specs.Ordering.{nat_cmp}
 use Rattle.std.specs.FinMap as map
 use Rattle.std.specs.FinSet as set
@@ -11,15 +12,14 @@ use Rattle.ck_log.specs.FirstTable.{first_table, new_layout}
 use Rattle.ck_log.specs.Images.{recovered_region, table_on, Settled}
 use Rattle.ck_model.specs.declared.checkpoint.Fileset.{Fileset}
 use Rattle.ck_model.specs.TableWorld.{world_on}
-use Rattle.ck_model.specs.Table.{Table}
+use Rattle.ck_model.specs.Chain.{keeps_data}
+use Rattle.ck_model.specs.Table.{Table, column}
 use Rattle.ck_area.specs.Area.{AreSlots, new_table}
 use Rattle.ck_slots.specs.Formatted.{StandsForEmpty}
 use Rattle.ck_slots.specs.Written.{slots_of}
-use Rattle.ck_model.proofs.CaseLaws.{some_is, true_or_false}
-use Rattle.ck_chain.proofs.ReadLaws.{live_stands}
-use Rattle.ck_nodata.specs.StripItem.{is_unstripped}
+use Rattle.ck_nodata.specs.StripItem.{is_extent}
 use Rattle.ck_nodata.proofs.HeldLaws.{zero_where_none}
-use Rattle.ck_nodata.proofs.PlaceLaws.{left_is, stripped_to_first}
+use Rattle.ck_nodata.proofs.PlaceLaws.{stripped_to_first}
 use Rattle.ck_files.specs.Allocated.{IsAllocated}
 use Rattle.ck_files.specs.Drained.{IsDrained}
 use Rattle.ck_data.specs.Device.{store_on}
@@ -47,9 +47,8 @@ new_drained : (blocks records : ℕ) (t : Table) → t ≡ new_table blocks reco
 new_drained blocks records t is = record {
   none = λ id fileset has. absurd (none_stands blocks records t is id fileset has);
   stripped = zero_where_none t (λ fs key.
-  true_or_false (is_unstripped t fs key) (λ left.
-  let stands = some_is (map.get t.filesets fs) (live_stands t fs (left_is t fs key left).live) in
-  none_stands blocks records t is fs stands.0 stands.1));
+  let none = ap (λ (x : Table). map.get x.filesets fs) is ∙ map.get-empty nat_cmp fs in
+  ap (λ (o : Option Fileset). (option_map_or (λ (f : Fileset). not f.gone) o false && not (keeps_data t fs)) && is_extent (column t key fs)) none);
 }
 
 module _ {D : Type 0} (blocks records : ℕ) (old new : Meaning) (volume : Engine D) (new_law : Lawful new) (runs : Runs old new)

@@ -15,8 +15,6 @@ use Rattle.ck_model.specs.Chain.{is_gone}
 use Rattle.ck_model.specs.Key.{spelled, spelled_alike}
 use Rattle.ck_model.specs.Rules.{KeyBelow, HeldBelow, IsOwn, IsOrderly, IsSound, first_holder}
 use Rattle.ck_model.specs.Table.{Table, column, newer}
-use Rattle.ck_chain.specs.Order.{is_behind}
-use Rattle.ck_nodata.specs.declared.item.StripItem.{StripItem}
 use Rattle.ck_slots.specs.Lawful.{IsTable-prop}
 use Rattle.ck_engine.specs.declared.engine.Engine.{Engine}
 use Rattle.ck_files.specs.Plain.{IsOurs}
@@ -89,11 +87,12 @@ ours t known = record {
   plain = ∥∥₁_elim known (hlevel props) (λ r. r.plain);
 }
 
-place : (last : StripItem) (fs : ℕ) (key : Key) → ∥ (last.id < fs) ⊎ ((fs ≡ last.id) × (is_behind last.key key ≡ true)) ∥₁ → (last.id < fs) ⊎ ((fs ≡ last.id) × (is_behind last.key key ≡ true))
-place last fs key known =
-    elim (cases_lt last.id fs) [
+-- the one number is below the other, or the cause is the second one
+below_or : {Q : Type 0} (a b : ℕ) → IsProp Q → ∥ (a < b) ⊎ Q ∥₁ → (a < b) ⊎ Q
+below_or a b prop known =
+    elim (cases_lt a b) [
       | inl less ↦ inl less
-      | inr most ↦ inr (∥∥₁_elim known (hlevel props) (elim [ inl less ↦ absurd (omega (arith, less, most)) | inr here ↦ here ]))
+      | inr most ↦ inr (∥∥₁_elim known prop (elim [ inl less ↦ absurd (omega (arith, less, most)) | inr q ↦ q ]))
     ]
 
 pub whole-known : {D : Type 0} (m : Meaning) (engine : Engine D) → ∥ IsWhole m engine ∥₁ → IsWhole m engine
@@ -108,5 +107,5 @@ whole-known m engine known = record {
   records = ∥∥₁_elim known (hlevel props) (λ r. r.records);
   size = ∥∥₁_elim known (hlevel props) (λ r. r.size);
   settled = ∥∥₁_elim known (hlevel props) (λ r. r.settled);
-  stripped = λ fs key left. place engine.stripped fs key (∥∥₁_map known (λ r. r.stripped fs key left));
+  stripped = λ fs key left. below_or engine.stripped.id fs (hlevel props) (∥∥₁_map known (λ r. r.stripped fs key left));
 }

@@ -43,16 +43,15 @@ use Rattle.ck_tree.specs.declared.fault.TreeFault.{TreeFault}
 use Rattle.ck_tree.specs.declared.fault.TreeFault.TheVariants.{NotFound, NotDir, IsDir as IsDirectory, Exists as Existing, NotEmpty as NotEmptied, Root as AtRoot, TooBig as TooLong, Spent as AllSpent, NoMemory}
 use Rattle.ck_tree.specs.Faults.{reply_of}
 use Rattle.ck_tree.specs.Plan.{IsPlan, IsRefusal, Differ, MayBeMade, block_by, numbers_after, world_after, with_changes as planned_cells}
-use Rattle.ck_alloc.specs.Blocks.{Allocation}
-use Rattle.ck_files.specs.Allocated.{is_named, is_taken, IsAllocatedBut, SameNamed}
+use Rattle.ck_files.specs.Allocated.{is_taken, SameNamed}
 use Rattle.ck_files.specs.Changes.{raised, IsRaised, with_changes, written_by}
 use Rattle.ck_push.specs.Changes.{MayChangeAll, AllApart, MayChange, changed_all}
-use Rattle.ck_files.specs.Places.{with_places, AreDistinct, ArePlaced, AreHeld}
+use Rattle.ck_files.specs.Places.{with_places, AreDistinct, AreHeld}
 use Rattle.ck_files.specs.Drained.{IsDrained}
 use Rattle.ck_files.specs.Plain.{IsOurs}
 use Rattle.ck_files.specs.Room.{has_room, lack_of_room, answered_with}
 use Rattle.ck_tree.proofs.MapLaws.{stands_on as stands}
-use Rattle.ck_files.proofs.NamedLaws.{extent_is, is-named, named-is}
+use Rattle.ck_files.proofs.NamedLaws.{extent_is, is-named}
 use Rattle.ck_files.proofs.ChangeLemmas.{changing-full, changing-fits}
 
 -- ---- what doesn't depend on the data blocks

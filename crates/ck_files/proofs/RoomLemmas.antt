@@ -1,5 +1,5 @@
 -- A call has room in a volume's table exactly where it has room in the world.
-use Rattle.std.proofs.Common.{◌≡◌, ℕ, zero, suc, ◌+◌, ◌-◌, ◌≤◌, Bool, true, false, not, cond, ◌&&◌, IsSome, is_some, if◌then◌else◌, List, [], ◌∷◌, map as list_map, filter, find, length, Option, Some, None, nat_le, refl, sym, ap, ◌∙◌, inl, inr, arith}
+use Rattle.std.proofs.Common.{◌≡◌, ℕ, zero, suc, ◌+◌, ◌-◌, ◌≤◌, Bool, true, false, not, cond, ◌&&◌, if◌then◌else◌, List, [], ◌∷◌, map as list_map, filter, find, length, Some, None, nat_le, refl, sym, ap, ◌∙◌, inl, inr, arith}
 use Rattle.std.specs.Option.{option_or, option_map, option_map_or}
 use Rattle.std.specs.FinMap as map
 use Rattle.std.proofs.lemmas.Bool.Decides.{nat_tests}
@@ -9,7 +9,7 @@ use Rattle.ck_model.specs.declared.reply.Reply.TheVariants.{NoSpace}
 use Rattle.ck_model.specs.declared.reply.SpaceOf.TheVariants.{Blocks, Records}
 use Rattle.ck_model.specs.declared.checkpoint.Fileset.{Fileset}
 use Rattle.ck_model.specs.World.{World, Checkpoint, Mounts, keeps_files, without_checkpoint}
-use Rattle.ck_model.specs.Space.{held, records_in, fits, pick, oldest_removable, given_up, without_picks, no_space}
+use Rattle.ck_model.specs.Space.{held, records_in, fits, pick, given_up, without_picks, no_space}
 use Rattle.ck_model.specs.Step.{Outcome, with_room}
 use Rattle.ck_model.specs.Table.{Table, IsTable, record_count}
 use Rattle.ck_model.specs.Values.{Store}
@@ -38,7 +38,7 @@ none_removable store t plain keeps (e ∷ es) placed =
       | false ↦ rest
     ]
 
-pub pick-none : (store : Store) (mounts : Mounts) (t : Table) → IsTable t → IsPlain t → pick (world_on store mounts t) ≡ None
+pick-none : (store : Store) (mounts : Mounts) (t : Table) → IsTable t → IsPlain t → pick (world_on store mounts t) ≡ None
 pick-none store mounts t lawful plain =
     let keeping = none_removable store t plain true (map.entries t.filesets) (all_placed t lawful) in
     let nodata = none_removable store t plain false (map.entries t.filesets) (all_placed t lawful) in
@@ -56,7 +56,7 @@ abbrev told_of : Reply → ℕ → World → Outcome
 told_of reply given next = record { reply = reply; given = given; next = next }
 
 -- with none to give up, a call fits or doesn't
-pub room-plain : (w : World) (effect : World → World) (new : ℕ) (reply : Reply) → pick w ≡ None
+room-plain : (w : World) (effect : World → World) (new : ℕ) (reply : Reply) → pick w ≡ None
     → with_room w effect new reply ≡ (if fits w (effect w) new then answered_with reply (effect w) else answered_with (no_space w (effect w) new) w)
 room-plain w effect new reply none =
     ap (λ given. let left = without_picks given w in

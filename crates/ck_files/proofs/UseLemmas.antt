@@ -9,14 +9,12 @@ use mathlib.Core.Bool.{false≢true}
 use Rattle.ck_model.specs.declared.held.Held.{Held}
 use Rattle.ck_model.specs.declared.held.Held.TheVariants.{Absent, Plain, Extent, Mark}
 use Rattle.ck_model.specs.declared.change.Freed.{Freed}
-use Rattle.ck_model.specs.Table.{Table, column}
+use Rattle.ck_model.specs.Table.{Table}
 use Rattle.ck_chain.specs.Named.{block_of, IsNamed}
 use Rattle.ck_push.specs.Released.{IsFreed}
 use Rattle.ck_alloc.specs.Blocks.{Allocation, IsPartition}
 use Rattle.ck_files.specs.Allocated.{is_named, is_taken, IsAllocated, IsAllocatedBut, AreUnnamed, blocks_held, is_busy, KeepsBusy}
-use Rattle.ck_files.proofs.WorldLaws.{column_named}
-use Rattle.ck_files.proofs.AllocatedLaws.{named_entry}
-use Rattle.ck_files.proofs.NamedLaws.{extent_is, is-named, named-is}
+use Rattle.ck_files.proofs.NamedLaws.{is-named, named-is}
 
 some_is : (x y : ℕ) → ◌≡◌ {A = Option ℕ} (Some x) (Some y) → x ≡ y
 some_is x y h = cc
@@ -101,7 +99,7 @@ module _ (old new : Table) (freed : Freed) (written rest : List ℕ) (is_freed :
   freed_untaken f h = true_false (is_taken rest f) (λ is. false≢true (sym (unnamed f is) ∙ named-is old f ((is_freed f).0 h).0))
 
   -- it is in use until then
-  pub freed_used : (blocks : Allocation) → IsAllocatedBut (written ++ rest) old blocks → (f : ℕ) → freed.block ≡ Some f → set.contains blocks.used f ≡ true
+  freed_used : (blocks : Allocation) → IsAllocatedBut (written ++ rest) old blocks → (f : ℕ) → freed.block ≡ Some f → set.contains blocks.used f ≡ true
   freed_used blocks allocated f h = allocated.used f ∙ left_true (is_named old f) (is_taken (written ++ rest) f) (named-is old f ((is_freed f).0 h).0)
 
   -- nothing was freed

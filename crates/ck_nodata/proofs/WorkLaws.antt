@@ -4,7 +4,7 @@ use Rattle.std.proofs.lemmas.Bool.{false≢true}
 use Rattle.ck_model.specs.declared.key.Key.{Key}
 use Rattle.ck_model.specs.Table.{Table, IsTable}
 use Rattle.ck_model.specs.Chain.{is_live}
-use Rattle.ck_model.proofs.CaseLaws.{some_is, true_or_false}
+use Rattle.ck_model.proofs.CaseLaws.{some_is}
 use Rattle.ck_nodata.specs.declared.item.StripItem.{StripItem}
 use Rattle.ck_nodata.specs.StripItem.{IsStrippedTo, is_unstripped, strip_in, strip_work_of, unstripped_count}
 use Rattle.ck_nodata.specs.Stripped.{IsThrough}
@@ -51,7 +51,3 @@ module _ (t : Table) (fs : ℕ) where
   pub over_behind : (last : StripItem) → IsStrippedTo t last → fs ≡ last.id → is_some (strip_in t fs (Some last.key)) ≡ false → (is_live t fs ≡ false) ⊎ IsThrough t fs
   over_behind last done same none =
       over_bare (ap (λ n. is_some (strip_in t n None)) same ∙ ap is_some (sym (same_in t last done)) ∙ ap (λ n. is_some (strip_in t n (Some last.key))) (sym same) ∙ none)
-
-  -- none is left at all
-  pub over_drained : unstripped_count t ≡ 0 → (is_live t fs ≡ false) ⊎ IsThrough t fs
-  over_drained nothing = over_bare (true_or_false (is_some (strip_in t fs None)) (λ found. let some = some_found t fs None found in omega (arith, some, nothing)))

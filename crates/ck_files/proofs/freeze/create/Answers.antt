@@ -1,4 +1,4 @@
-use Rattle.std.proofs.Common.{◌≡◌, false, sym, subst}
+use Rattle.std.proofs.Common.{◌≡◌, false, subst}
 use Rattle.ck_model.specs.Step.{created}
 use Rattle.ck_model.specs.TableWorld.{world_on}
 use Rattle.ck_files.specs.Room.{answered_with}

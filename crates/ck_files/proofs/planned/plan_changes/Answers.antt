@@ -1,4 +1,4 @@
-use Rattle.std.proofs.Common.{◌≡◌, ◌≤◌, ◌-◌, List, length, refl, sym, subst}
+use Rattle.std.proofs.Common.{◌≤◌, ◌-◌, List, length, refl, sym, subst}
 use Rattle.ck_model.specs.declared.change.Change.{Change}
 use Rattle.ck_push.specs.Growth.{gains, losses, write_count}
 use Rattle.ck_files.specs.Planned.{IsPlanned}

@@ -1,4 +1,4 @@
-use Rattle.std.proofs.Common.{ℕ, ◌+◌}
+use Rattle.std.proofs.Common.{◌+◌}
 use Rattle.ck_remove.specs.Gone.{left_of}
 use Rattle.ck_nodata.specs.StripItem.{unstripped_count, IsStrippedTo}
 use Rattle.ck_files.specs.Allocated.{KeepsBusy, IsAllocated}
