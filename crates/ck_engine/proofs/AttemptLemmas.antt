@@ -12,6 +12,8 @@ use Rattle.ck_alloc.specs.Blocks.{Allocation, IsPartition, free_count}
 use Rattle.ck_model.specs.World.{World, unmounted}
 use Rattle.ck_model.specs.Table.{Table}
 use Rattle.ck_model.specs.TableWorld.{world_on, extent_count}
+use Rattle.ck_nodata.specs.declared.item.StripItem.{StripItem}
+use Rattle.ck_nodata.specs.StripItem.{IsStrippedTo}
 use Rattle.ck_files.specs.Allocated.{IsAllocated, KeepsBusy}
 use Rattle.ck_engine.specs.Committed.{IsCommitted, Keeps, OpensToEither}
 use Rattle.ck_data.specs.Device.{store_on}
@@ -66,6 +68,11 @@ own_files : (t u : Table) (blocks : Allocation) → AreFiles (limits_of t) u blo
 own_files t u blocks files = record { ours = files.ours; allocated = files.allocated; limit = refl; records = refl }
 
 module _ {D : Type 0} where
+  -- a place up to which nothing is left to strip stays one, where neither it nor the table changes
+  stripped_still : (before after : Engine D) → table_of after ≡ table_of before → after.stripped ≡ before.stripped → IsStrippedTo (table_of before) before.stripped → IsStrippedTo (table_of after) after.stripped
+  stripped_still before after table place done =
+      subst (λ (last : StripItem). IsStrippedTo (table_of after) last) (sym place) (subst (λ (t : Table). IsStrippedTo t before.stripped) (sym table) done)
+
   -- ---- no call of the device
 
   pub quiet-attempt : (m : Meaning) (before after : Engine D) → Lawful m → IsAttempt m m before after
@@ -75,14 +82,15 @@ module _ {D : Type 0} where
   }
 
   pub quiet-goes : (m : Meaning) (before after : Engine D) → IsWhole m before → layout_of after ≡ layout_of before → AreFiles (limits_of (table_of before)) (table_of after) (blocks_of after)
-      → KeepsBusy (blocks_of before) (blocks_of after) → GoesOn m m before after
-  quiet-goes m before after whole layout files busy = record {
+      → KeepsBusy (blocks_of before) (blocks_of after) → IsStrippedTo (table_of after) after.stripped → GoesOn m m before after
+  quiet-goes m before after whole layout files busy stripped = record {
     whole = record {
       files = own_files (table_of before) (table_of after) (blocks_of after) files;
       blocks = ap (λ (l : Layout). l.blocks) layout ∙ whole.blocks ∙ sym files.limit;
       records = ap (λ (l : Layout). l.records) layout ∙ whole.records ∙ sym files.records;
       size = subst (λ (l : Layout). size_of l.blocks l.records ≤ m.size) (sym layout) whole.size;
       settled = subst (λ (l : Layout). Settled l m) (sym layout) whole.settled;
+      stripped = stripped;
     };
     kept = λ told w keeps. inl (subst (λ (l : Layout). Keeps l (blocks_of after) m w) (sym layout) (keeps-busy (layout_of before) (blocks_of before) m w keeps (blocks_of after) busy));
   }
@@ -120,14 +128,16 @@ module _ {D : Type 0} where
         leaves_either_step w now (layout_of before) (blocks_of before) old old new (leaves_either_start w now (layout_of before) (blocks_of before) old law (inl keeps)) reads.step either;
   }
 
-  pub reads-goes : (old new : Meaning) (before after : Engine D) → IsWhole old before → OnlyReads old new → layout_of after ≡ layout_of before → table_of after ≡ table_of before → blocks_of after ≡ blocks_of before → GoesOn old new before after
-  reads-goes old new before after whole reads layout table blocks = record {
+  pub reads-goes : (old new : Meaning) (before after : Engine D) → IsWhole old before → OnlyReads old new → layout_of after ≡ layout_of before → table_of after ≡ table_of before → blocks_of after ≡ blocks_of before → after.stripped ≡ before.stripped
+      → GoesOn old new before after
+  reads-goes old new before after whole reads layout table blocks place = record {
     whole = record {
       files = subst (λ (t : Table). AreFiles (limits_of t) t (blocks_of after)) (sym table) (subst (λ (b : Allocation). AreFiles (limits_of (table_of before)) (table_of before) b) (sym blocks) whole.files);
       blocks = ap (λ (l : Layout). l.blocks) layout ∙ whole.blocks ∙ sym (ap (λ (t : Table). t.blocks) table);
       records = ap (λ (l : Layout). l.records) layout ∙ whole.records ∙ sym (ap (λ (t : Table). t.records) table);
       size = subst (λ n. size_of (layout_of after).blocks (layout_of after).records ≤ n) (sym reads.step.size) (subst (λ (l : Layout). size_of l.blocks l.records ≤ old.size) (sym layout) whole.size);
       settled = subst (λ (l : Layout). Settled l new) (sym layout) (settled-keeps (layout_of before) old new reads.step.tells reads.shows reads.crash whole.settled);
+      stripped = stripped_still before after table place whole.stripped;
     };
     kept = λ told w keeps.
         let now = unmounted (world_of old.shows before) in
@@ -147,8 +157,8 @@ module _ {D : Type 0} where
   }
 
   pub stores-goes : (old mid new : Meaning) (before middle after : Engine D) → IsAttempt old mid before middle → GoesOn old mid before middle → OnlyStores (data_of middle) (blocks_of middle) mid new
-      → layout_of after ≡ layout_of middle → AreFiles (limits_of (table_of middle)) (table_of after) (blocks_of after) → KeepsBusy (blocks_of middle) (blocks_of after) → GoesOn old new before after
-  stores-goes old mid new before middle after attempt goes stores layout files busy =
+      → layout_of after ≡ layout_of middle → AreFiles (limits_of (table_of middle)) (table_of after) (blocks_of after) → KeepsBusy (blocks_of middle) (blocks_of after) → IsStrippedTo (table_of after) after.stripped → GoesOn old new before after
+  stores-goes old mid new before middle after attempt goes stores layout files busy stripped =
       let whole = goes.whole in
       record {
         whole = record {
@@ -157,6 +167,7 @@ module _ {D : Type 0} where
           records = ap (λ (l : Layout). l.records) layout ∙ whole.records ∙ sym files.records;
           size = subst (λ n. size_of (layout_of after).blocks (layout_of after).records ≤ n) (sym stores.size) (subst (λ (l : Layout). size_of l.blocks l.records ≤ mid.size) (sym layout) whole.size);
           settled = subst (λ (l : Layout). Settled l new) (sym layout) (stores-settled whole.settled);
+          stripped = stripped;
         };
         kept = λ told w keeps.
             let now = unmounted (world_of old.shows before) in
@@ -228,7 +239,7 @@ module _ {D : Type 0} where
     module _ (new_law : Lawful new) (layout : layout_of after ≡ record (layout_of before) { second = (layout_of after).second }) (table : table_of after ≡ table_of before) (mounts : mounts_of after ≡ mounts_of before)
         (settled : Settled (layout_of after) new) (synced : IsSynced new) (shown : IsTrue old.tells → table_on (layout_of after) new.shows ≡ commits.after)
         (others : IsTrue old.tells → Agrees (OutsideGateAndAreas (layout_of before).records) old.shows new.shows)
-        (free : blocks_of after ≡ record (blocks_of before) { pending = set.empty }) (partition : IsPartition (blocks_of after)) where
+        (free : blocks_of after ≡ record (blocks_of before) { pending = set.empty }) (partition : IsPartition (blocks_of after)) (place : after.stripped ≡ before.stripped) where
       abbrev base : ℕ
       base = base_of (layout_of before).records
 
@@ -271,6 +282,7 @@ module _ {D : Type 0} where
           records = ap (λ (l : Layout). l.records) layout ∙ whole.records ∙ sym (ap (λ (t : Table). t.records) table);
           size = subst (λ n. size_of (layout_of after).blocks (layout_of after).records ≤ n) (sym ran.size) (subst (λ (l : Layout). size_of l.blocks l.records ≤ old.size) (sym layout) whole.size);
           settled = settled;
+          stripped = stripped_still before after table place whole.stripped;
         };
         kept = λ told w keeps. inr (subst (λ w. KeepsWorld new after (unmounted w)) (commit-world told) (commit-committed told w keeps));
       }

@@ -1,6 +1,7 @@
 -- A volume as it is made.
-use Rattle.std.proofs.Common.{◌≡◌, ℕ, ◌||◌, ◌≤◌, false, is_some, IsTrue, None, Some, [], refl, sym, ap, subst, ◌∙◌}
+use Rattle.std.proofs.Common.{◌≡◌, ℕ, ◌&&◌, ◌||◌, ◌≤◌, false, not, is_some, IsTrue, Option, None, Some, [], refl, sym, ap, subst, ◌∙◌}
 use mathlib.Core.Bool.{false≢true}
+use Rattle.std.specs.Option.{option_map_or}
 use Rattle.std.specs.Ordering.{nat_cmp}
 use Rattle.std.specs.FinMap as map
 use Rattle.std.specs.FinSet as set
@@ -10,13 +11,17 @@ use Rattle.ck_log.specs.Header.{Opens as OpensAt}
 use Rattle.ck_log.specs.FirstTable.{first_table, new_layout}
 use Rattle.ck_log.specs.Images.{recovered_region, table_on, Settled}
 use Rattle.ck_model.specs.declared.checkpoint.Fileset.{Fileset}
-use Rattle.ck_model.specs.Placed.{NoneGone}
 use Rattle.ck_model.specs.TableWorld.{world_on}
-use Rattle.ck_model.specs.Table.{Table}
+use Rattle.ck_model.specs.Chain.{keeps_data}
+use Rattle.ck_model.specs.Table.{Table, column}
 use Rattle.ck_area.specs.Area.{AreSlots, new_table}
 use Rattle.ck_slots.specs.Formatted.{StandsForEmpty}
 use Rattle.ck_slots.specs.Written.{slots_of}
+use Rattle.ck_nodata.specs.StripItem.{is_extent}
+use Rattle.ck_nodata.proofs.HeldLaws.{zero_where_none}
+use Rattle.ck_nodata.proofs.PlaceLaws.{stripped_to_first}
 use Rattle.ck_files.specs.Allocated.{IsAllocated}
+use Rattle.ck_files.specs.Drained.{IsDrained}
 use Rattle.ck_data.specs.Device.{store_on}
 use Rattle.ck_engine.specs.Committed.{IsCommitted}
 use Rattle.ck_engine.specs.Formatted.{new_world, IsFormatted}
@@ -37,15 +42,21 @@ none_stands blocks records t is id fileset has =
 pub plain_new : (blocks records : ℕ) (t : Table) → t ≡ new_table blocks records → IsPlain t
 plain_new blocks records t is id fileset has = absurd (none_stands blocks records t is id fileset has)
 
-none_gone : (blocks records : ℕ) (t : Table) → t ≡ new_table blocks records → NoneGone t
-none_gone blocks records t is id fileset has = absurd (none_stands blocks records t is id fileset has)
+-- so nothing is left to remove or to strip
+new_drained : (blocks records : ℕ) (t : Table) → t ≡ new_table blocks records → IsDrained t
+new_drained blocks records t is = record {
+  none = λ id fileset has. absurd (none_stands blocks records t is id fileset has);
+  stripped = zero_where_none t (λ fs key.
+  let none = ap (λ (x : Table). map.get x.filesets fs) is ∙ map.get-empty nat_cmp fs in
+  ap (λ (o : Option Fileset). (option_map_or (λ (f : Fileset). not f.gone) o false && not (keeps_data t fs)) && is_extent (column t key fs)) none);
+}
 
 module _ {D : Type 0} (blocks records : ℕ) (old new : Meaning) (volume : Engine D) (new_law : Lawful new) (runs : Runs old new)
     (layout : layout_of volume ≡ new_layout blocks records) (new_is : table_of volume ≡ new_table (layout_of volume).blocks (layout_of volume).records) (ours : IsOurs (table_of volume)) (allocated : IsAllocated (table_of volume) (blocks_of volume))
     (stands : StandsForEmpty (table_of volume)) (written : AreSlots (first_table (table_blocks (layout_of volume).records)) (slots_of (layout_of volume) (table_of volume)))
     (size : size_of blocks records ≤ old.size) (found : IsTrue old.tells → recovered_region new.shows ≡ OpensAt (layout_of volume))
     (first : IsTrue old.tells → table_on (layout_of volume) new.shows ≡ first_table (table_blocks records)) (settled : Settled (layout_of volume) new) (synced : IsSynced new)
-    (mounts : mounts_of volume ≡ map.empty) where
+    (mounts : mounts_of volume ≡ map.empty) (first_place : volume.stripped.id ≡ 0) where
   abbrev place : Layout
   place = layout_of volume
 
@@ -95,6 +106,7 @@ module _ {D : Type 0} (blocks records : ℕ) (old new : Meaning) (volume : Engin
         records = sym records_are;
         size = subst (λ n. size_of place.blocks place.records ≤ n) (sym runs.size) (subst (λ (l : Layout). size_of l.blocks l.records ≤ old.size) (sym layout) size);
         settled = settled;
+        stripped = stripped_to_first t volume.stripped ours.lawful first_place;
       };
       mounts_are = mounts;
     };
@@ -102,5 +114,5 @@ module _ {D : Type 0} (blocks records : ℕ) (old new : Meaning) (volume : Engin
     runs = runs;
     world = ap (λ mounts. world_on (store_on new.shows (base_of place.records)) mounts t) mounts ∙ empty-is;
     kept = λ told. record { table = t; committed = committed told };
-    exact = λ told image left. committed-exact place (blocks_of volume) new t (new_world blocks records) (committed told) (none_gone place.blocks place.records t new_is) image left;
+    exact = λ told image left. committed-exact place (blocks_of volume) new t (new_world blocks records) (committed told) (new_drained place.blocks place.records t new_is) image left;
   }

@@ -9,7 +9,6 @@ use Rattle.ck_log.specs.Layout.{Layout, base_of}
 use Rattle.ck_alloc.specs.Blocks.{Allocation}
 use Rattle.ck_model.specs.World.{World}
 use Rattle.ck_model.specs.Space.{held, records_in}
-use Rattle.ck_model.specs.Placed.{NoneGone}
 use Rattle.ck_model.specs.Table.{Table}
 use Rattle.ck_engine.specs.Committed.{IsCommitted}
 use Rattle.ck_data.specs.Device.{store_on}
@@ -18,22 +17,23 @@ use Rattle.ck_engine.specs.Recovery.{Recovery, Opens, Finds, FindsBy, recovery_o
 use Rattle.ck_engine.specs.declared.engine.Engine.{Engine}
 use Rattle.ck_engine.specs.Engine.{layout_of, blocks_of, KeepsWorld}
 use Rattle.ck_files.proofs.WorldLaws.{world_same}
-use Rattle.ck_files.proofs.RoomLaws.{held-is, records-is}
+use Rattle.ck_nodata.proofs.HeldLaws.{held-is, records-is}
+use Rattle.ck_files.specs.Drained.{IsDrained}
 use Rattle.ck_engine.proofs.SafeLemmas.{named_same, holds-recovers}
 use Rattle.ck_engine.proofs.CommittedLemmas.{keeps-recovers}
 
--- each image of a device on which a table is committed has its world, and nothing beside it where no checkpoint is gone
-pub committed-exact : (layout : Layout) (blocks : Allocation) (m : Meaning) (t : Table) (w : World) → IsCommitted layout blocks m t w → NoneGone t → (image : Image) → m.may_leave image → IsExact w image
-committed-exact layout blocks m t w c none image left =
+-- each image of a device on which a table is committed has its world, and nothing beside it where nothing is left to remove or to strip
+pub committed-exact : (layout : Layout) (blocks : Allocation) (m : Meaning) (t : Table) (w : World) → IsCommitted layout blocks m t w → IsDrained t → (image : Image) → m.may_leave image → IsExact w image
+committed-exact layout blocks m t w c drained image left =
     let base = base_of layout.records in
     record {
       layout = layout;
       table = t;
       holds = c.safe.table image left;
       world = world_same t map.empty (store_on image base) (store_on m.shows base) (named_same layout t m.shows image (c.safe.blocks image left)) ∙ c.world;
-      records = sym (records-is (store_on m.shows base) map.empty t c.ours.lawful c.ours.sound none) ∙ ap records_in c.world;
-      blocks = sym (held-is (store_on m.shows base) map.empty t c.ours.lawful c.ours.sound c.ours.plain none) ∙ ap held c.world;
-      standing = none;
+      records = sym (records-is (store_on m.shows base) map.empty t c.ours.lawful c.ours.sound drained.none) ∙ ap records_in c.world;
+      blocks = sym (held-is (store_on m.shows base) map.empty t c.ours.lawful c.ours.sound drained.none drained.stripped) ∙ ap held c.world;
+      standing = drained.none;
     }
 
 -- a crash leaves the world that is kept

@@ -16,7 +16,7 @@ use Rattle.ck_log.specs.Layout.{Layout, base_of, size_of}
 use Rattle.ck_log.specs.Header.{Recovered, Opens as OpensAt}
 use Rattle.ck_log.specs.Images.{recovered_region, area_of, Settled}
 use Rattle.ck_log.proofs.RecoveryLaws.{recovered_region-agrees, table_on-agrees, area_of-settled, settled-keeps}
-use Rattle.ck_model.specs.World.{keeps_files}
+use Rattle.ck_nodata.proofs.PlaceLaws.{stripped_to_first}
 use Rattle.ck_model.specs.Table.{Table}
 use Rattle.ck_model.specs.Rules.{IsSound}
 use Rattle.ck_model.specs.TableWorld.{world_on}
@@ -58,15 +58,9 @@ synced-safe layout t m law told synced holds = record {
       record { size = same.size; at = λ k at. same.at k (synced k) };
 }
 
-both_false : (b c : Bool) → (not b || c) ≡ false → (b ≡ true) × (c ≡ false)
-both_false true c h = (refl, h)
-both_false false c h = absurd (false≢true (sym h))
-
 -- no checkpoint is of a form that isn't built
 pub plain_built : (t : Table) → IsBuilt t → IsPlain t
-plain_built t built id fileset has =
-    let f = both_false (keeps_files fileset.kind) fileset.removable (built id fileset has) in
-    record { keeps = f.0; stays = f.1 }
+plain_built t built id fileset has = record { stays = built id fileset has }
 
 pub opened-holds : (layout : Layout) (t : Table) (m : Meaning) → Lawful m → IsTrue m.tells → recovered_region m.shows ≡ OpensAt layout → Settled layout m → IsOpenedTable layout m t → HoldsTable layout t m.shows
 opened-holds layout t m law told found settled opened = record {
@@ -82,7 +76,7 @@ module _ {D : Type 0} (old new : Meaning) (volume : Engine D) (law : Lawful old)
     (blocks : (table_of volume).blocks ≡ (layout_of volume).blocks) (records : (table_of volume).records ≡ (layout_of volume).records) (size : size_of (layout_of volume).blocks (layout_of volume).records ≤ old.size)
     (found : IsTrue old.tells → recovered_region old.shows ≡ OpensAt (layout_of volume)) (settled : Settled (layout_of volume) old) (synced : IsSynced old)
     (opened : IsTrue old.tells → IsOpenedTable (layout_of volume) old (table_of volume))
-    (mounts : mounts_of volume ≡ map.empty) where
+    (mounts : mounts_of volume ≡ map.empty) (first : volume.stripped.id ≡ 0) where
   abbrev layout : Layout
   layout = layout_of volume
 
@@ -104,6 +98,7 @@ module _ {D : Type 0} (old new : Meaning) (volume : Engine D) (law : Lawful old)
         records = sym records;
         size = subst (λ n. size_of layout.blocks layout.records ≤ n) (sym reads.step.size) size;
         settled = settled-keeps layout old new reads.step.tells reads.shows reads.crash settled;
+        stripped = stripped_to_first t volume.stripped ours.lawful first;
       };
       mounts_are = mounts;
     };

@@ -21,7 +21,7 @@ use Rattle.ck_engine.proofs.AttemptLemmas.{reads-goes}
 
 module _ {D : Type 0} (old new : Meaning) (before after : Engine D) (reads : OnlyReads old new) (others : after ≡ record before { disk = disk_of after }) where
   pub device-goes : IsWhole old before → GoesOn old new before after
-  device-goes whole = reads-goes old new before after whole reads (ap layout_of others) (ap table_of others) (ap blocks_of others)
+  device-goes whole = reads-goes old new before after whole reads (ap layout_of others) (ap table_of others) (ap blocks_of others) (ap (λ (engine : Engine D). engine.stripped) others)
 
 -- ---- what its answer says
 

@@ -39,9 +39,7 @@ named_same layout t shows image agrees block named = sym (agrees.at (base_of lay
 -- a table as it is written
 module _ (layout : Layout) (t : Table) (ours : IsOurs t) (blocks : t.blocks ≡ layout.blocks) (records : t.records ≡ layout.records) where
   pub written-built : is_unbuilt (slots_for layout t) ≡ false
-  written-built = built_written (32 * table_blocks layout.records) t (λ id f has.
-      let plain = ours.plain id f has in
-      (λ i. not (plain.keeps i) || plain.stays i))
+  written-built = built_written (32 * table_blocks layout.records) t (λ id f has. (ours.plain id f has).stays)
 
   pub written-undamaged : damage layout.blocks layout.records (slots_for layout t) ≡ None
   written-undamaged = (λ i. damage (sym blocks i) (sym records i) (slots_for layout t)) ∙ undamaged_written (32 * table_blocks layout.records) t ours.lawful ours.sound ours.sized

@@ -1,8 +1,9 @@
 -- Where it is known that the files are whole, but not in which way, they are: tests decide between the ways.
-use Rattle.std.proofs.Common.{◌≡◌, ◌≢◌, ℕ, Bool, true, false, Option, Some, None, IsSomeAnd, ◌⊎◌, inl, inr, refl, ap}
+use Rattle.std.proofs.Common.{◌≡◌, ◌≢◌, ◌<◌, ℕ, Bool, true, false, Option, Some, None, IsSomeAnd, ◌⊎◌, inl, inr, refl, ap, arith}
 use mathlib.Core.Logic.{∥∥₁_elim, ∥∥₁_map}
 use mathlib.Core.Bool.{false≢true}
 use Rattle.std.proofs.Props.{props}
+use Rattle.std.proofs.lemmas.Bool.{cases_lt}
 use Rattle.std.proofs.lemmas.Bool.Decides.{eqb_tells}
 use Rattle.ck_disk.specs.Disk.{Meaning}
 use Rattle.ck_model.specs.declared.key.Key.{Key}
@@ -86,6 +87,14 @@ ours t known = record {
   plain = ∥∥₁_elim known (hlevel props) (λ r. r.plain);
 }
 
+-- the one number is below the other, or the cause is the second one
+below_or : {Q : Type 0} (a b : ℕ) → IsProp Q → ∥ (a < b) ⊎ Q ∥₁ → (a < b) ⊎ Q
+below_or a b prop known =
+    elim (cases_lt a b) [
+      | inl less ↦ inl less
+      | inr most ↦ inr (∥∥₁_elim known prop (elim [ inl less ↦ absurd (omega (arith, less, most)) | inr q ↦ q ]))
+    ]
+
 pub whole-known : {D : Type 0} (m : Meaning) (engine : Engine D) → ∥ IsWhole m engine ∥₁ → IsWhole m engine
 whole-known m engine known = record {
   files = record {
@@ -98,4 +107,5 @@ whole-known m engine known = record {
   records = ∥∥₁_elim known (hlevel props) (λ r. r.records);
   size = ∥∥₁_elim known (hlevel props) (λ r. r.size);
   settled = ∥∥₁_elim known (hlevel props) (λ r. r.settled);
+  stripped = λ fs key left. below_or engine.stripped.id fs (hlevel props) (∥∥₁_map known (λ r. r.stripped fs key left));
 }

@@ -1,9 +1,9 @@
 -- A checkpoint that keeps no data from now on: what changes of the table.
-use Rattle.std.specs.Prelude.{◌≡◌, ℕ, Bool, List, Some, true}
+use Rattle.std.specs.Prelude.{◌≡◌, ◌⊎◌, ℕ, Bool, List, Some, true}
 use Rattle.ck_model.specs.declared.call.Call.{Call}
 use Rattle.ck_model.specs.declared.call.Call.TheVariants.{Nodata}
 use Rattle.ck_model.specs.declared.reply.Reply.{Reply}
-use Rattle.ck_model.specs.declared.reply.Reply.TheVariants.{Delayed}
+use Rattle.ck_model.specs.declared.reply.Reply.TheVariants.{Delayed, Done}
 use Rattle.ck_model.specs.Chain.{is_live, keeps_data}
 use Rattle.ck_model.specs.History.{reply_number}
 use Rattle.ck_model.specs.Table.{Table}
@@ -16,6 +16,7 @@ pub record IsConverted (name : List ℕ) (reply : Reply) (old new : Table) : Typ
   pub named : id_named old name ≡ Some id
   pub live : is_live old id ≡ true
   pub table : new ≡ with_nodata old id
+  pub said : (reply ≡ Done) ⊎ (reply ≡ Delayed)
   pub delayed : reply ≡ Delayed → keeps_data new id ≡ true
 
 -- a call that converted a checkpoint has changed that one record: no data block is given back yet

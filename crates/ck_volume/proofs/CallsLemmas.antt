@@ -16,7 +16,7 @@ pub calls-none : (m : Meaning) (w : World) → (IsTrue m.tells → Recovers m.sh
 calls-none m w recovers = record { first = λ told. (w, recovers told); calls = λ actor seq. None; answered = tt; counted = tt }
 
 -- it has one more of that entry's actor
-numbers-more : (history : List Entry) (entry : Entry) (actor : ℕ) → length (numbers_of (history ++ entry ∷ []) actor) ≡ length (numbers_of history actor) + (if nat_eq entry.actor actor then 1 else 0)
+pub numbers-more : (history : List Entry) (entry : Entry) (actor : ℕ) → length (numbers_of (history ++ entry ∷ []) actor) ≡ length (numbers_of history actor) + (if nat_eq entry.actor actor then 1 else 0)
 numbers-more [] entry actor =
     elim (nat_eq entry.actor actor) as (λ b. length (cons_option (if b then Some entry.seq else None) []) ≡ 0 + (if b then 1 else 0)) [
       | true ↦ refl

@@ -1,9 +1,11 @@
 -- What a read that is on its way has to do with the history and with the present world.
-use Rattle.std.proofs.Common.{◌≡◌, ◌≢◌, ◌≤◌, ◌<◌, ◌⊎◌, inl, inr, ℕ, zero, suc, ◌+◌, ◌-◌, ◌/◌, Bool, true, false, Option, Some, None, List, [], ◌∷◌, ◌++◌, length, find, min, nat_eq, Result, if◌then◌else◌, IsTrue, refl, sym, ap, subst, ◌∙◌, arith}
+use Rattle.std.proofs.Common.{◌≡◌, ◌≢◌, ◌≤◌, ◌<◌, ◌⊎◌, inl, inr, ℕ, zero, suc, ◌+◌, ◌-◌, ◌/◌, Bool, true, false, Option, Some, None, List, [], ◌∷◌, ◌++◌, length, find, min, nat_eq, slice_get, Result, if◌then◌else◌, IsTrue, refl, sym, ap, subst, ◌∙◌, arith}
 use Rattle.std.specs.Prelude.{⊤}
 use Rattle.std.specs.List.{range_with_len}
-use Rattle.std.proofs.lemmas.Bool.{cases_lt}
+use Rattle.std.proofs.lemmas.Bool.{cases_lt, eqb-true, false_from_ne_true}
 use Rattle.std.proofs.lemmas.Bool.Decides.{nat_tests}
+use Rattle.std.proofs.lemmas.List.{take-append-le}
+use Rattle.std.proofs.lemmas.Option.{slice_get_within}
 use Rattle.std.specs.Coded.{Coded-set, coded_ℕ, coded_result}
 use Rattle.std.specs.FinMap as map
 use Rattle.std.proofs.Props.{props}
@@ -11,12 +13,13 @@ use mathlib.Core.Logic.{∥∥₁_elim}
 use Rattle.ck_disk.specs.Disk.{Meaning}
 use Rattle.ck_model.specs.contracts.reply.Reply as reply_row
 use Rattle.ck_model.specs.declared.call.Call.{Call}
-use Rattle.ck_model.specs.declared.call.Call.TheVariants.{Cread}
+use Rattle.ck_model.specs.declared.call.Call.TheVariants.{Cread, Nodata}
 use Rattle.ck_model.specs.declared.checkpoint.Kind.TheVariants.{Keeping}
 use Rattle.ck_model.specs.declared.entry.Entry.{Entry}
 use Rattle.ck_model.specs.declared.reply.Reply.{Reply}
 use Rattle.ck_model.specs.Cells.{Cells, size_at}
 use Rattle.ck_model.specs.Changes.{touched}
+use Rattle.ck_model.specs.CheckpointCalls.{checkpoint_named}
 use Rattle.ck_model.specs.Streams.{Texts}
 use Rattle.ck_model.specs.World.{World, Checkpoint, has_id}
 use Rattle.ck_model.specs.History.{CallsBy, IsLegal, begun, past_of, numbers_of, state}
@@ -35,8 +38,10 @@ use Rattle.ck_volume.specs.declared.event.Progress.{Progress}
 use Rattle.ck_volume.specs.declared.event.Progress.TheVariants as progress
 use Rattle.ck_volume.specs.Kept.{HasCalls, Stands, broken_by}
 use Rattle.ck_volume.specs.Present.{Present, history_of, world_of}
-use Rattle.ck_volume.specs.Progress.{had_of, reading_of, IsBegunFor, FitsHistory, FitsNow, FitsWorld}
+use Rattle.ck_volume.specs.Progress.{had_of, reading_of, IsBegunFor, FitsHistory, FitsNow, FitsStrip, FitsWorld, StripsNamed}
 use Rattle.ck_volume.specs.Told.{AreAnswered}
+use Rattle.ck_volume.specs.Turn.{OnStrip}
+use Rattle.ck_volume.proofs.CallsLemmas.{numbers-more}
 use Rattle.ck_volume.proofs.ToldLaws.{answered-before}
 
 -- what an image recovers to has its checkpoints in order
@@ -125,15 +130,16 @@ module _ {D : Type 0} (origin now : Meaning) (told : List Call) (volume : Presen
         };
   }
 
-  pub fits_world : IsTrue origin.tells → (actor : ℕ) (call : Call) (p : Progress) → IsBegunFor call p → FitsHistory origin told (history_of volume) actor call p → FitsWorld (world_of now.shows volume) actor call p
-  fits_world is_told actor call progress.Fresh begun fits = tt
-  fits_world is_told actor (Cread letter path at len) (progress.Read read) begun fits =
+  pub fits_world : IsTrue origin.tells → (actor : ℕ) (call : Call) (p : Progress) → OnStrip p (λ id. ⊥) → IsBegunFor call p → FitsHistory origin told (history_of volume) actor call p → FitsWorld (world_of now.shows volume) actor call p
+  fits_world is_told actor call progress.Fresh reads begun fits = tt
+  fits_world is_told actor (Cread letter path at len) (progress.Read read) reads begun fits =
       read_in actor letter path at len read begun
       (∥∥₁_elim calls (now-prop (world_of now.shows volume) actor letter path at len (reading_of read)) (λ has.
       let first = has.first is_told in
       fits_here origin now told volume stands is_told no_texts has.calls first.0 first.1 has.answered actor letter path at len (reading_of read)
       (fits is_told first.0 first.1 no_texts has.calls has.answered)))
-  fits_world is_told actor _ (progress.Read read) begun fits = absurd begun
+  fits_world is_told actor _ (progress.Read read) reads begun fits = absurd begun
+  fits_world is_told actor call (progress.Strip id) reads begun fits = absurd reads
 
 -- and what fits there fits the history
 pub now_fits : {D : Type 0} (origin now : Meaning) (told : List Call) (volume : Present D) → Stands origin now told volume → (actor : ℕ) (call : Call) (p : Progress)
@@ -142,6 +148,7 @@ now_fits origin now told volume stands actor call progress.Fresh reads = tt
 now_fits origin now told volume stands actor (Cread letter path at len) (progress.Read read) reads = λ is_told w found texts calls answered.
     fits_then origin now told volume stands is_told texts calls w found answered actor letter path at len read (reads is_told)
 now_fits origin now told volume stands actor _ (progress.Read read) reads = λ is_told w found texts calls answered. absurd (reads is_told)
+now_fits origin now told volume stands actor call (progress.Strip id) reads = λ is_told w found texts calls answered. absurd (reads is_told)
 
 -- ---- as entries of other actors come
 
@@ -152,12 +159,49 @@ none_of entry actor apart =
       | false ↦ λ other. cc
     ] refl
 
+-- an entry stays where it is as others come behind it
+stays_there : (entries more : List Entry) (number : ℕ) (entry : Entry) → slice_get entries number ≡ Some entry → slice_get (entries ++ more) number ≡ Some entry
+stays_there [] more number entry is = absurd (none_there entry is)
+  where
+    none_there : (e : Entry) → None ≡ Some e → ⊥
+    none_there e h = cc
+stays_there (first ∷ entries) more zero entry is = is
+stays_there (first ∷ entries) more (suc number) entry is = stays_there entries more number entry is
+
+module _ (texts : Texts) (calls : CallsBy) (w : World) (history : List Entry) (entry : Entry) (actor : ℕ) (apart : entry.actor ≢ actor) where
+  abbrev one_if : Bool → ℕ
+  one_if b = if b then 1 else 0
+
+  -- what is stripped stays the checkpoint of the actor's last call
+  strips_others : (name : List ℕ) (id : ℕ) → StripsNamed texts calls w history actor name id → StripsNamed texts calls w (history ++ entry ∷ []) actor name id
+  strips_others name id strips =
+      let within : strips.number < length history = slice_get_within history strips.number strips.entry strips.there in
+      let many = numbers-more history entry actor in
+      let none : one_if (nat_eq entry.actor actor) ≡ 0 = ap one_if (false_from_ne_true (nat_eq entry.actor actor) (λ h. apart (eqb-true entry.actor actor h))) in
+      record {
+        number = strips.number;
+        entry = strips.entry;
+        there = stays_there history (entry ∷ []) strips.number strips.entry strips.there;
+        own = strips.own;
+        seq = strips.seq ∙ omega (arith, many, none);
+        checkpoint = strips.checkpoint;
+        named = ap (λ (es : List Entry). checkpoint_named (state texts calls w es) name) (take-append-le strips.number history (entry ∷ []) (omega (arith, within))) ∙ strips.named;
+        id_is = strips.id_is;
+      }
+
+  fits_strip : (call : Call) (id : ℕ) → FitsStrip texts calls w history actor call id → FitsStrip texts calls w (history ++ entry ∷ []) actor call id
+  fits_strip (Nodata name true) id fits = strips_others name id fits
+  fits_strip (Nodata name false) id fits = absurd fits
+  fits_strip _ id fits = absurd fits
+
 pub fits_others : (origin : Meaning) (told : List Call) (other : Call) (history : List Entry) (entry : Entry) (actor : ℕ) (call : Call) (p : Progress) → entry.actor ≢ actor
     → FitsHistory origin told history actor call p → FitsHistory origin (told ++ other ∷ []) (history ++ entry ∷ []) actor call p
 fits_others origin told other before entry actor call progress.Fresh apart fits = tt
 fits_others origin told other before entry actor call (progress.Read read) apart fits = λ is_told w found texts calls answered.
     fits_last_lem texts calls w before (entry ∷ []) actor call (reading_of read) (none_of entry actor apart)
     (fits is_told w found texts calls (answered-before calls told other before entry answered).0)
+fits_others origin told other before entry actor call (progress.Strip id) apart fits = λ is_told w found texts calls answered.
+    fits_strip texts calls w before entry actor apart call id (fits is_told w found texts calls (answered-before calls told other before entry answered).0)
 
 -- ---- its turns
 
@@ -212,3 +256,4 @@ had_within (Cread letter path at len) (progress.Read read) begun =
     let all = all_within read begun.under_way.limit in
     omega (arith, some, all)
 had_within _ (progress.Read read) begun = absurd begun
+had_within call (progress.Strip id) begun = omega arith

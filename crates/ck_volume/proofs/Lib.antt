@@ -13,3 +13,4 @@ pub mod CutsAfter
 pub mod ExactKnown
 pub mod TopCutsLaws
 pub mod QuietLemmas
+pub mod ConversionLemmas

@@ -84,14 +84,17 @@ answers-read w next actor letter path at len reply is ordinary same texts moment
 pub had_is : (p : Progress) → had_by (read_of p) ≡ had_of p
 had_is progress.Fresh = refl
 had_is (progress.Read read) = refl
+had_is (progress.Strip id) = refl
 
 pub begun_is : (letter : ℕ) (path : List (List ℕ)) (at len : ℕ) (p : Progress) → IsBegunFor (Cread letter path at len) p → IfSome (read_of p) (IsOnWay at)
 begun_is letter path at len progress.Fresh begun = tt
 begun_is letter path at len (progress.Read read) begun = begun
+begun_is letter path at len (progress.Strip id) begun = tt
 
 pub fits_is : (w : World) (actor letter : ℕ) (path : List (List ℕ)) (at len : ℕ) (p : Progress) → FitsWorld w actor (Cread letter path at len) p → IfSome (read_of p) (IsReadIn w actor letter path at len)
 fits_is w actor letter path at len progress.Fresh fits = tt
 fits_is w actor letter path at len (progress.Read read) fits = fits
+fits_is w actor letter path at len (progress.Strip id) fits = tt
 
 pub last_is : (letter : ℕ) (path : List (List ℕ)) (at len count : ℕ) (reply : Reply) → IfSome (bytes_in reply) (λ bytes. count ≡ turns_of at (length bytes)) → IsLastOf (Cread letter path at len) reply count
 last_is letter path at len count (Bytes bytes) h = h

@@ -7,7 +7,7 @@ use Rattle.ck_tree.specs.Plan.{numbers_after}
 use Rattle.ck_files.specs.Changes.{IsRaised, raised}
 use Rattle.ck_push.specs.Changes.{MayChangeAll, changed_all}
 use Rattle.ck_data.specs.Device.{store_on}
-use Rattle.ck_files.proofs.PlacedLaws.{after_lawful, after_raised, stored_first, stored_room, stored_may, stored_allocated, stored-done}
+use Rattle.ck_files.proofs.PlacedLaws.{after_lawful, after_raised, stored_first, stored_room, stored_may, stored_allocated, stored_stripped, stored-done}
 use Rattle.ck_data.proofs.StoredLaws.{kept_there}
 use Rattle.ck_data.proofs.writes.apply_planned.Goals as goal
 
@@ -60,3 +60,12 @@ returns-clause-done g c = λ told mounts.
     (λ block named. kept_there base blocks old new block (c.store_all.ensures.device.shows told)
     (ap (λ b. b || set.contains blocks.pending block) (c.requires.files.allocated.used block ∙ ap (λ b. b || false) named)))
     (c.in_ok-store_all.ensures.held told mounts) c.requires.room (g.M.Meta.table c.change_all.new.meta) after
+
+pub returns-clause-stripped : goal.returns-clause-stripped
+returns-clause-stripped g c = λ last done.
+    let t = g.M.Meta.table c.args.meta.now in
+    let next : c.numbers_after-next.result ≡ numbers_after c.args.call.now t.counters = c.numbers_after-next.ensures ∙ ap (numbers_after c.args.call.now) c.counters-counters.ensures in
+    stored_stripped t c.args.call.now c.args.changes.now c.store_all.new.changes c.store_all.new.blocks c.requires.files.ours c.requires.plan c.in_ok-store_all.ensures.placed last done (g.M.Meta.table c.change_all.new.meta)
+    (c.change_all.ensures.changed
+    ∙ ap (λ (k : Counters). changed_all (raised t k t.blocks) c.store_all.new.changes c.counters-counters.result.stamp) next
+    ∙ ap (λ (k : Counters). changed_all (raised t (numbers_after c.args.call.now t.counters) t.blocks) c.store_all.new.changes k.stamp) c.counters-counters.ensures)

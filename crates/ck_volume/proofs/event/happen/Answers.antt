@@ -9,8 +9,9 @@ use Rattle.ck_model.specs.declared.entry.Entry.{Entry}
 use Rattle.ck_model.specs.declared.reply.Reply.{Reply}
 use Rattle.ck_model.specs.declared.reply.Reply.TheVariants.{Broken, Done}
 use Rattle.ck_model.specs.World.{World, unmounted}
-use Rattle.ck_model.specs.History.{created_id, is_fault, is_write_fault, is_broken}
-use Rattle.ck_engine.specs.Engine.{disk_of, world_of, KeepsWorld}
+use Rattle.ck_model.specs.History.{created_id, is_fault, is_write_fault, is_broken, reply_number}
+use Rattle.ck_files.specs.Conversion.{IsConverted}
+use Rattle.ck_engine.specs.Engine.{disk_of, table_of, world_of, KeepsWorld}
 use Rattle.ck_volume.specs.declared.event.Progress.{Progress}
 use Rattle.ck_volume.specs.Event.{HasCause, newest}
 use Rattle.ck_volume.specs.Present.{present}
@@ -101,6 +102,18 @@ returns-in-Some-clause-removes g c = λ name is_remove done.
     let same : newest after ≡ c.entry_of.result = newest-put before after c.entry_of.result put in
     let replied : (newest after).reply ≡ Broken c.in-Some.entry = ap (λ (e : Entry). e.reply) (same ∙ c.entry_of.ensures) in
     absurd (not_done c.in-Some.entry (sym replied ∙ done))
+
+not_zero : (number : ℕ) → reply_number (Broken number) ≡ 0 → ⊥
+not_zero number h = omega (arith, h)
+
+pub returns-in-Some-clause-converts : goal.returns-in-Some-clause-converts
+returns-in-Some-clause-converts g c = λ name synchronous is_nodata zero.
+    let before = entries_of c.args.log.now.history in
+    let after = entries_of c.put.new.self in
+    let put : after ≡ before ++ c.entry_of.result ∷ [] = c.put.ensures.entries in
+    let same : newest after ≡ c.entry_of.result = newest-put before after c.entry_of.result put in
+    let replied : (newest after).reply ≡ Broken c.in-Some.entry = ap (λ (e : Entry). e.reply) (same ∙ c.entry_of.ensures) in
+    absurd (not_zero c.in-Some.entry (sym (ap reply_number replied) ∙ zero))
 
 of_broken : (call : Call) (number count : ℕ) → IsLastOf call (Broken number) count
 of_broken (Cread letter path at len) number count = tt
@@ -227,3 +240,13 @@ returns-in-Replied-clause-removes g c = λ name is_remove done.
     let same : newest after ≡ c.entry_of-in-Replied.result = newest-put before after c.entry_of-in-Replied.result put in
     let replied : (newest after).reply ≡ c.in-Replied.reply = ap (λ (e : Entry). e.reply) (same ∙ c.entry_of-in-Replied.ensures) in
     c.in-Replied.ensures.removes name is_remove (sym replied ∙ done)
+
+pub returns-in-Replied-clause-converts : goal.returns-in-Replied-clause-converts
+returns-in-Replied-clause-converts g c = λ name synchronous is_nodata zero.
+    let before = entries_of c.args.log.now.history in
+    let after = entries_of c.put-in-Replied.new.self in
+    let put : after ≡ before ++ c.entry_of-in-Replied.result ∷ [] = c.put-in-Replied.ensures.entries ∙ ap (λ (h : History). entries_of h ++ c.entry_of-in-Replied.result ∷ []) c.in-Replied.ensures.history in
+    let same : newest after ≡ c.entry_of-in-Replied.result = newest-put before after c.entry_of-in-Replied.result put in
+    let replied : (newest after).reply ≡ c.in-Replied.reply = ap (λ (e : Entry). e.reply) (same ∙ c.entry_of-in-Replied.ensures) in
+    subst (λ (reply : Reply). IsConverted name reply (table_of c.args.engine.now) (table_of c.one_event.new.engine)) (sym replied)
+    (c.in-Replied.ensures.converts name synchronous is_nodata (sym (ap reply_number replied) ∙ zero))

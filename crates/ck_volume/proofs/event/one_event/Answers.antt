@@ -1,7 +1,7 @@
 use Rattle.std.proofs.Common.{◌≡◌, ℕ, ◌+◌, Bool, List, length, Some, None, if◌then◌else◌, refl, sym, ap, subst, ◌∙◌}
 use Rattle.ck_history.specs.History.{entries_of}
 use Rattle.ck_model.specs.declared.call.Call.{Call}
-use Rattle.ck_model.specs.declared.call.Call.TheVariants.{Create, Cread, Remove, Sync}
+use Rattle.ck_model.specs.declared.call.Call.TheVariants.{Create, Cread, Nodata, Remove, Sync}
 use Rattle.ck_model.specs.World.{World}
 use Rattle.ck_files.specs.Built.{IsBuilt}
 use Rattle.ck_engine.specs.Engine.{disk_of, world_of}
@@ -18,6 +18,9 @@ not_remove call is remove = cc
 
 not_sync : {letter at len : ℕ} {path : List (List ℕ)} (call : Call) → call ≡ Cread letter path at len → call ≡ Sync → ⊥
 not_sync call is sync = cc
+
+not_nodata : {letter at len : ℕ} {path : List (List ℕ)} {n : List ℕ} {synchronous : Bool} (call : Call) → call ≡ Cread letter path at len → call ≡ Nodata n synchronous → ⊥
+not_nodata call is nodata = cc
 
 pub read-requires-clause-limit : goal.read-requires-clause-limit
 read-requires-clause-limit g c = subst IsBuilt c.in-Cread.is c.requires.built
@@ -41,6 +44,9 @@ returns-in-Cread-clause-freezes g c = each_reply c.read.result _ (λ reply name 
 
 pub returns-in-Cread-clause-removes : goal.returns-in-Cread-clause-removes
 returns-in-Cread-clause-removes g c = each_reply c.read.result _ (λ reply name is_remove. absurd (not_remove c.args.call.now c.in-Cread.is is_remove))
+
+pub returns-in-Cread-clause-converts : goal.returns-in-Cread-clause-converts
+returns-in-Cread-clause-converts g c = each_reply c.read.result _ (λ reply name synchronous is_nodata. absurd (not_nodata c.args.call.now c.in-Cread.is is_nodata))
 
 pub returns-in-Cread-clause-synced : goal.returns-in-Cread-clause-synced
 returns-in-Cread-clause-synced g c = each_reply c.read.result _ (λ reply is_sync. absurd (not_sync c.args.call.now c.in-Cread.is is_sync))

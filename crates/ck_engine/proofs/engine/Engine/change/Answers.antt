@@ -24,11 +24,11 @@ returns-in_err-reply-clause-attempt g c = quiet-attempt (g.D.Disk.means c.args.s
 pub returns-in_err-reply-clause-goes_on : goal.returns-in_err-reply-clause-goes_on
 returns-in_err-reply-clause-goes_on g c =
     let before = c.args.self.now in
-    let after = record before { slots = c.plan_changes.new.meta; blocks = c.plan_changes.new.blocks } in
+    let after = record before { slots = c.plan_changes.new.meta; blocks = c.plan_changes.new.blocks; stripped = c.plan_changes.new.stripped } in
     let e = c.plan_changes.ensures in
     let m = g.D.Disk.means before.disk in
     goes_all m m before after c.from_residual.result
-    (quiet-goes m before after c.requires.whole refl (subst (λ (l : Limits). AreFiles l (table_of after) (blocks_of after)) c.limits-limits.ensures e.files) e.busy)
+    (quiet-goes m before after c.requires.whole refl (subst (λ (l : Limits). AreFiles l (table_of after) (blocks_of after)) c.limits-limits.ensures e.files) e.busy e.stripped)
 
 pub returns-in_err-reply-clause-err : goal.returns-in_err-reply-clause-err
 returns-in_err-reply-clause-err g c =
@@ -46,14 +46,14 @@ returns-in-Answered-clause-attempt g c = quiet-attempt (g.D.Disk.means c.args.se
 pub returns-in-Answered-clause-goes_on : goal.returns-in-Answered-clause-goes_on
 returns-in-Answered-clause-goes_on g c =
     let before = c.args.self.now in
-    let after = record before { slots = c.plan_changes.new.meta; blocks = c.plan_changes.new.blocks } in
+    let after = record before { slots = c.plan_changes.new.meta; blocks = c.plan_changes.new.blocks; stripped = c.plan_changes.new.stripped } in
     let e = c.plan_changes.ensures in
-    quiet-goes (g.D.Disk.means before.disk) before after c.requires.whole refl (subst (λ (l : Limits). AreFiles l (table_of after) (blocks_of after)) c.limits-limits.ensures e.files) e.busy
+    quiet-goes (g.D.Disk.means before.disk) before after c.requires.whole refl (subst (λ (l : Limits). AreFiles l (table_of after) (blocks_of after)) c.limits-limits.ensures e.files) e.busy e.stripped
 
 pub returns-in-Answered-clause-ok : goal.returns-in-Answered-clause-ok
 returns-in-Answered-clause-ok g c = λ told.
     let before = c.args.self.now in
-    let after = record before { slots = c.plan_changes.new.meta; blocks = c.plan_changes.new.blocks } in
+    let after = record before { slots = c.plan_changes.new.meta; blocks = c.plan_changes.new.blocks; stripped = c.plan_changes.new.stripped } in
     let shows = (g.D.Disk.means before.disk).shows in
     let planned : IsPlanned (table_of after) c.args.call.now (Answered c.in-Answered.reply) = subst (IsPlanned (table_of after) c.args.call.now) c.in-Answered.is c.in_ok-reply.ensures.planned in
     let same : world_of shows after ≡ world_of shows before = c.plan_changes.ensures.alike.worlds (store_on shows (data_of before)) (mounts_of before) in
@@ -65,7 +65,7 @@ returns-in-Answered-clause-ok g c = λ told.
 pub returns-in-Changes-clause-attempt : goal.returns-in-Changes-clause-attempt
 returns-in-Changes-clause-attempt g c =
     let before = c.args.self.now in
-    let middle = record before { slots = c.plan_changes.new.meta; blocks = c.plan_changes.new.blocks } in
+    let middle = record before { slots = c.plan_changes.new.meta; blocks = c.plan_changes.new.blocks; stripped = c.plan_changes.new.stripped } in
     let e = c.plan_changes.ensures in
     let m = g.D.Disk.means before.disk in
     behind-attempt m (g.D.Disk.means c.change_planned.new.self.disk) before middle c.change_planned.new.self (e.alike.worlds (store_on m.shows (data_of before)) (mounts_of before)) refl e.busy c.change_planned.ensures.attempt
@@ -73,7 +73,7 @@ returns-in-Changes-clause-attempt g c =
 pub returns-in-Changes-clause-goes_on : goal.returns-in-Changes-clause-goes_on
 returns-in-Changes-clause-goes_on g c =
     let before = c.args.self.now in
-    let middle = record before { slots = c.plan_changes.new.meta; blocks = c.plan_changes.new.blocks } in
+    let middle = record before { slots = c.plan_changes.new.meta; blocks = c.plan_changes.new.blocks; stripped = c.plan_changes.new.stripped } in
     let e = c.plan_changes.ensures in
     let m = g.D.Disk.means before.disk in
     behind-goes_all m (g.D.Disk.means c.change_planned.new.self.disk) before middle c.change_planned.new.self (e.alike.worlds (store_on m.shows (data_of before)) (mounts_of before)) refl e.busy c.change_planned.result c.change_planned.ensures.goes_on
@@ -81,7 +81,7 @@ returns-in-Changes-clause-goes_on g c =
 pub returns-in-Changes-clause-ok : goal.returns-in-Changes-clause-ok
 returns-in-Changes-clause-ok g c =
     let before = c.args.self.now in
-    let middle = record before { slots = c.plan_changes.new.meta; blocks = c.plan_changes.new.blocks } in
+    let middle = record before { slots = c.plan_changes.new.meta; blocks = c.plan_changes.new.blocks; stripped = c.plan_changes.new.stripped } in
     let after = c.change_planned.new.self in
     let shows = (g.D.Disk.means before.disk).shows in
     let same : world_of shows middle ≡ world_of shows before = c.plan_changes.ensures.alike.worlds (store_on shows (data_of before)) (mounts_of before) in
@@ -92,7 +92,7 @@ returns-in-Changes-clause-ok g c =
 pub returns-in-Changes-clause-err : goal.returns-in-Changes-clause-err
 returns-in-Changes-clause-err g c =
     let before = c.args.self.now in
-    let middle = record before { slots = c.plan_changes.new.meta; blocks = c.plan_changes.new.blocks } in
+    let middle = record before { slots = c.plan_changes.new.meta; blocks = c.plan_changes.new.blocks; stripped = c.plan_changes.new.stripped } in
     let shows = (g.D.Disk.means before.disk).shows in
     let same : world_of shows middle ≡ world_of shows before = c.plan_changes.ensures.alike.worlds (store_on shows (data_of before)) (mounts_of before) in
     on_err_map _ _ c.change_planned.result (λ err told. err told ∙ same) c.change_planned.ensures.err

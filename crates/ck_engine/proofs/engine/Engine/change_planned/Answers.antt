@@ -42,6 +42,7 @@ returns-in-Ok-clause-goes_on g c =
     let after = record middle { slots = c.apply_planned.new.meta; blocks = c.apply_planned.new.blocks; disk = c.apply_planned.new.disk } in
     stores-goes (g.D.Disk.means c.args.self.now.disk) mid new c.args.self.now middle after c.free_blocks.ensures.attempt c.in_ok-free_blocks.ensures.goes_on stores refl
     (subst (λ (l : Limits). AreFiles l (table_of after) (blocks_of after)) c.limits-limits.ensures c.in-Ok.ensures.files) c.apply_planned.ensures.busy
+    (c.apply_planned.ensures.stripped middle.stripped c.in_ok-free_blocks.ensures.goes_on.whole.stripped)
 
 pub returns-in-Err-clause-goes_on : goal.returns-in-Err-clause-goes_on
 returns-in-Err-clause-goes_on g c =
@@ -56,7 +57,8 @@ returns-in-Err-clause-goes_on g c =
     inr (stores-goes (g.D.Disk.means c.args.self.now.disk) mid new c.args.self.now middle after c.free_blocks.ensures.attempt c.in_ok-free_blocks.ensures.goes_on stores refl
     (subst (λ (t : Table). AreFiles (limits_of (table_of middle)) t (blocks_of after)) (sym c.in-Err.ensures.table)
     (record { ours = files.ours; allocated = read.1; limit = files.limit; records = files.records }))
-    c.apply_planned.ensures.busy))
+    c.apply_planned.ensures.busy
+    (c.apply_planned.ensures.stripped middle.stripped c.in_ok-free_blocks.ensures.goes_on.whole.stripped)))
     (λ (write : c.in-Err.fault ≡ WriteFault). inl write)
     c.in-Err.ensures.err
 

@@ -21,4 +21,4 @@ returns-clause-formatted g c =
     let old = g.D.Disk.means c.args.disk in
     let new = g.D.Disk.means c.format.new.disk in
     volume-formatted c.args.blocks c.args.records old new _ (g.met.D.Disk.lawful c.format.new.disk) (runs_of old new (FormatLeaves (new_layout c.args.blocks c.args.records) old) r.any_moment)
-    r.region e.table ours c.in-Ok-blocks_in.ensures e.world e.written r.size r.volume r.table r.settled r.synced c.new.ensures
+    r.region e.table ours c.in-Ok-blocks_in.ensures e.world e.written r.size r.volume r.table r.settled r.synced c.new.ensures c.before_all.ensures

@@ -19,7 +19,7 @@ returns-clause-opened g c =
     let d = c.open.ensures.device in
     let reads : OnlyReads (g.D.Disk.means c.args.disk) (g.D.Disk.means c.open.new.disk) = record { shows = d.shows; crash = d.crash; marks = d.marks; step = d.step } in
     volume-opened (g.D.Disk.means c.args.disk) (g.D.Disk.means c.open.new.disk) _ (g.met.D.Disk.lawful c.args.disk) (g.met.D.Disk.lawful c.open.new.disk) reads
-    ours c.in-Ok-blocks_in.ensures c.in-Ok.ensures.sizes.0 c.in-Ok.ensures.sizes.1 c.requires.size c.requires.found c.requires.settled c.requires.synced c.in-Ok.ensures.table c.new.ensures
+    ours c.in-Ok-blocks_in.ensures c.in-Ok.ensures.sizes.0 c.in-Ok.ensures.sizes.1 c.requires.size c.requires.found c.requires.settled c.requires.synced c.in-Ok.ensures.table c.new.ensures c.before_all.ensures
 
 pub returns-in-Err-BadFormat-clause-fault : goal.returns-in-Err-BadFormat-clause-fault
 returns-in-Err-BadFormat-clause-fault g c =

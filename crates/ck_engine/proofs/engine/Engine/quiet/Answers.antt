@@ -26,14 +26,14 @@ returns-in-Ok-clause-goes_on g c =
     let before = c.args.self.now in
     let after = c.answer_quietly.new.self in
     let e = c.answer_quietly.ensures in
-    subst (λ d. GoesOn (g.D.Disk.means before.disk) (g.D.Disk.means d) before after) (sym e.disk) (quiet-goes (g.D.Disk.means before.disk) before after c.requires.whole e.region e.files e.busy)
+    subst (λ d. GoesOn (g.D.Disk.means before.disk) (g.D.Disk.means d) before after) (sym e.disk) (quiet-goes (g.D.Disk.means before.disk) before after c.requires.whole e.region e.files e.busy e.stripped)
 
 pub returns-in-Err-clause-goes_on : goal.returns-in-Err-clause-goes_on
 returns-in-Err-clause-goes_on g c =
     let before = c.args.self.now in
     let after = c.answer_quietly.new.self in
     let e = c.answer_quietly.ensures in
-    inr (subst (λ d. GoesOn (g.D.Disk.means before.disk) (g.D.Disk.means d) before after) (sym e.disk) (quiet-goes (g.D.Disk.means before.disk) before after c.requires.whole e.region e.files e.busy))
+    inr (subst (λ d. GoesOn (g.D.Disk.means before.disk) (g.D.Disk.means d) before after) (sym e.disk) (quiet-goes (g.D.Disk.means before.disk) before after c.requires.whole e.region e.files e.busy e.stripped))
 
 pub returns-in-Ok-clause-ok : goal.returns-in-Ok-clause-ok
 returns-in-Ok-clause-ok g c = λ texts.

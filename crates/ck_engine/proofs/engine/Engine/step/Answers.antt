@@ -10,11 +10,11 @@ returns-clause-attempt g c = quiet-attempt (g.D.Disk.means c.args.self.now.disk)
 pub returns-clause-goes_on : goal.returns-clause-goes_on
 returns-clause-goes_on g c =
     let before = c.args.self.now in
-    let after = record before { slots = c.remove_step.new.meta; blocks = c.remove_step.new.blocks } in
-    let e = c.remove_step.ensures in
-    quiet-goes (g.D.Disk.means before.disk) before after c.requires.whole refl (record { ours = e.ours; allocated = e.allocated; limit = e.alike.blocks; records = e.alike.records }) e.busy
+    let after = record before { slots = c.step.new.meta; blocks = c.step.new.blocks; stripped = c.step.new.stripped } in
+    let e = c.step.ensures in
+    quiet-goes (g.D.Disk.means before.disk) before after c.requires.whole refl (record { ours = e.ours; allocated = e.allocated; limit = e.alike.blocks; records = e.alike.records }) e.busy e.stripped
 
 pub returns-clause-world : goal.returns-clause-world
 returns-clause-world g c =
     let before = c.args.self.now in
-    c.remove_step.ensures.alike.worlds (store_on (g.D.Disk.means before.disk).shows (data_of before)) (mounts_of before)
+    c.step.ensures.alike.worlds (store_on (g.D.Disk.means before.disk).shows (data_of before)) (mounts_of before)
