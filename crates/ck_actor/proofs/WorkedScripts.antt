@@ -1,13 +1,14 @@
--- Histories that follow their scripts, and one that doesn't.
-use Rattle.std.proofs.Common.{◌≡◌, ℕ, ◌+◌, ◌&&◌, false, cond, List, [], ◌∷◌, ◌++◌, length, nat_eq, codes, refl, ap, arith}
+-- Histories that follow their scripts, and some that don't.
+use Rattle.std.proofs.Common.{◌≡◌, ℕ, ◌+◌, ◌&&◌, true, false, cond, List, [], ◌∷◌, ◌++◌, length, nat_eq, codes, refl, ap, arith}
 use Rattle.std.specs.Prelude.{replicate}
 use Rattle.std.specs.List.{AllByRecursion, slice_index_or}
 use Rattle.ck_laws.specs.Laws.{frozen}
 use Rattle.ck_model.specs.declared.call.Call.{Call}
-use Rattle.ck_model.specs.declared.call.Call.TheVariants.{Make, Rm, Write, Fill, Create, Remove, Mount, Cread, Info as Counted, Sync}
+use Rattle.ck_model.specs.declared.call.Call.TheVariants.{Make, Rm, Write, Fill, Create, Remove, Nodata, Ckpts, Mount, Cread, Info as Counted, Sync}
+use Rattle.ck_model.specs.declared.checkpoint.State.TheVariants as state
 use Rattle.ck_model.specs.declared.entry.Entry.{Entry}
 use Rattle.ck_model.specs.declared.reply.Reply.{Reply}
-use Rattle.ck_model.specs.declared.reply.Reply.TheVariants.{Done, Bytes, Created, Info}
+use Rattle.ck_model.specs.declared.reply.Reply.TheVariants.{Done, Bytes, Created, Listing, Info}
 use Rattle.ck_model.specs.History.{begun, call_at}
 use Rattle.ck_model.specs.Streams.{Texts}
 use Rattle.ck_model.specs.World.{World}
@@ -113,6 +114,35 @@ long_read_follows texts w =
       order = refl;
     }
 
+-- ---- a checkpoint that is stripped step by step: its call is answered at the first turn, and the turns end while it strips
+
+abbrev stripped : Parsed
+stripped =
+    script_of
+    ((1, Make (file (codes "a"))) ∷ (1, Fill (file (codes "a")) 0 8192 97) ∷ (1, Create (codes "c1") false false) ∷ (1, Fill (file (codes "a")) 0 8192 98)
+    ∷ (1, Nodata (codes "c1") true) ∷ (1, Counted) ∷ (2, Ckpts) ∷ [])
+    (1 ∷ 1 ∷ 1 ∷ 1 ∷ 1 ∷ 2 ∷ [])
+
+abbrev by_stripped : List Entry
+by_stripped =
+    entry 1 1 Done ∷ entry 1 2 Done ∷ entry 1 3 (Created 1) ∷ entry 1 4 Done ∷ entry 1 5 Done
+    ∷ entry 2 1 (Listing (record { id = 1; state = state.Nodata; removable = false; ctime = 100; name = codes "c1" } ∷ [])) ∷ entry 1 6 (Info 2 64 8 256 1) ∷ []
+
+-- the conversion has two blocks to strip
+abbrev two_for_it : TurnCounts
+two_for_it actor seq = cond (nat_eq actor 1 && nat_eq seq 5) 2 1
+
+pub stripped_follows : (texts : Texts) (w : World) → Follows texts stripped w by_stripped
+stripped_follows texts w =
+    let calls = call_at (calls_in stripped.calls) in
+    let maps = frozen texts calls w by_stripped in
+    let each : AllByRecursion (TakesAnywhere calls maps two_for_it) by_stripped = search arith in
+    record {
+      counts = two_for_it;
+      taken = take_anywhere texts calls maps two_for_it (begun w) by_stripped each;
+      order = refl;
+    }
+
 -- ---- what doesn't follow
 
 -- the actor of the call at a place
@@ -138,3 +168,13 @@ whole_read_does_not_follow texts w follows = refused follows.counts (follows.tak
   where
     refused : (counts : TurnCounts) → counts 1 1 ≡ 3 → counts 2 1 ≡ 1 → (1, 1) ∷ (2, 1) ∷ [] ≡ answered_by crossed_read.calls counts at_first crossed_read.turns → ⊥
     refused counts three one = rw (three, one) (λ same. let actors : ◌≡◌ {A = ℕ} 1 2 = ap (actor_at 0) same in omega (arith, actors))
+
+-- a conversion step by step that is answered once all is stripped
+abbrev crossed_strip : Parsed
+crossed_strip = script_of ((1, Nodata (codes "c1") true) ∷ (2, Sync) ∷ []) (1 ∷ 2 ∷ 1 ∷ [])
+
+pub strip_before_its_entry_does_not_follow : (texts : Texts) (w : World) → Follows texts crossed_strip w (entry 2 1 Done ∷ entry 1 1 Done ∷ []) → ⊥
+strip_before_its_entry_does_not_follow texts w follows = refused follows.counts follows.order
+  where
+    refused : (counts : TurnCounts) → (2, 1) ∷ (1, 1) ∷ [] ≡ answered_by crossed_strip.calls counts at_first crossed_strip.turns → ⊥
+    refused counts same = let actors : ◌≡◌ {A = ℕ} 2 1 = ap (actor_at 0) same in omega (arith, actors)
