@@ -1,5 +1,5 @@
 -- A call that changes files, in the world of a volume's table: it fits exactly where the table has room for its changes.
-use Rattle.std.proofs.Common.{◌≡◌, ℕ, ◌+◌, ◌-◌, ◌<◌, ◌≤◌, true, false, Option, Some, None, Ok, IfSome, List, if◌then◌else◌, refl, sym, ap, subst, ◌∙◌, inl, inr, ⊎_elim, arith}
+use Rattle.std.proofs.Common.{◌≡◌, ℕ, ◌+◌, ◌-◌, ◌<◌, ◌≤◌, true, false, Option, Some, None, Ok, IfSome, List, refl, sym, ap, subst, ◌∙◌, inl, inr, ⊎_elim, arith}
 use Rattle.std.specs.FinMap as map
 use Rattle.std.proofs.lemmas.Bool.{cases_lt}
 use Rattle.ck_model.specs.declared.key.Key.{Key}
@@ -21,13 +21,15 @@ use Rattle.ck_model.specs.Values.{Store}
 use Rattle.ck_model.specs.TableWorld.{world_on}
 use Rattle.ck_model.specs.Placed.{NoneGone}
 use Rattle.ck_push.specs.Growth.{gains, losses, write_count}
-use Rattle.ck_files.specs.Plain.{IsOurs, IsPlain}
+use Rattle.ck_files.specs.Drained.{IsDrained}
+use Rattle.ck_files.specs.Plain.{IsOurs}
 use Rattle.ck_files.specs.Room.{Grows, has_room, lack_of_room, answered_with}
 use Rattle.ck_files.specs.Changes.{raised, IsRaised, with_changes}
 use Rattle.ck_push.specs.Changes.{MayChangeAll, changed_all, AreMade}
 use Rattle.ck_files.proofs.WorldLaws.{world_same}
 use Rattle.ck_files.specs.Allocated.{SameNamed}
-use Rattle.ck_files.proofs.RoomLaws.{no_room-is, records-is, records-within, room-is, room_of}
+use Rattle.ck_nodata.proofs.HeldLaws.{records-is, records-within}
+use Rattle.ck_files.proofs.RoomLemmas.{no_room-is, room-is, room_of}
 use Rattle.ck_push.proofs.ChangeLaws.{are_made}
 use Rattle.ck_files.proofs.WorldAfter.{world_changed_all}
 use Rattle.ck_files.proofs.NewBlocks.{new-is}
@@ -103,20 +105,17 @@ module _ (store other : Store) (mounts : Mounts) (t : Table) (counters : Counter
   stood = world_same t mounts store other same
 
   leads : record (world_on other mounts (raised t counters blocks)) { primary = with_changes other (world_on other mounts t).primary items t.counters.stamp } ≡ world_on other mounts u
-  leads = sym (world_changed_all other mounts (raised t counters blocks) items t.counters.stamp (raised_lawful t counters blocks ours.lawful up) (raised_sound t counters blocks ours.sound up) ours.plain more may)
+  leads = sym (world_changed_all other mounts (raised t counters blocks) items t.counters.stamp (raised_lawful t counters blocks ours.lawful up) (raised_sound t counters blocks ours.sound up) more may)
 
   led_world : records_in led ≡ records_in (world_on other mounts u)
   led_world = ap (λ (x : World). records_in (record x { primary = with_changes other x.primary items t.counters.stamp })) stood ∙ ap records_in leads
-
-  plain_after : IsPlain u
-  plain_after id f is = ours.plain id f (ap (λ m. map.get m id) (sym made.filesets) ∙ is)
 
   -- its records
   led_records : NoneGone t → records_in led ≡ record_count u
   led_records none = led_world ∙ records-is other mounts u made.lawful made.sound (λ id f is. none id f (ap (λ m. map.get m id) (sym made.filesets) ∙ is))
 
   led_within : records_in led ≤ record_count u
-  led_within = let same = led_world in let most = records-within other mounts u made.lawful made.sound plain_after in omega (arith, same, most)
+  led_within = let same = led_world in let most = records-within other mounts u made.lawful made.sound in omega (arith, same, most)
 
   led_grows : NoneGone t → Grows (record_count t) (records_in led) (gains t items - losses t items)
   led_grows none = subst (λ n. Grows (record_count t) n (gains t items - losses t items)) (sym (led_records none)) (grows_by (record_count t) (record_count u) (gains t items) (losses t items) made.counted)
@@ -132,12 +131,12 @@ module _ (store other : Store) (mounts : Mounts) (t : Table) (counters : Counter
       ∙ leads
 
   -- it has no room
-  pub changing-full : NoneGone t → (b r : ℕ) (reply : Reply) → b ≡ write_count items → r ≡ gains t items - losses t items → has_room t b r ≡ false → reply ≡ lack_of_room t b r
+  pub changing-full : IsDrained t → (b r : ℕ) (reply : Reply) → b ≡ write_count items → r ≡ gains t items - losses t items → has_room t b r ≡ false → reply ≡ lack_of_room t b r
       → changing w (Ok led) ≡ answered_with reply w
-  changing-full gone b r reply bs rs full is =
+  changing-full drained b r reply bs rs full is =
       let none : has_room t (write_count items) (gains t items - losses t items) ≡ false = (λ i. has_room t (sym bs i) (sym rs i)) ∙ full in
       ap (λ n. with_room w (λ left. record led { checkpoints = left.checkpoints }) n Done) new_is
-      ∙ no_room-is store mounts t ours gone led (write_count items) (gains t items - losses t items) (led_grows gone) (λ left. record led { checkpoints = left.checkpoints }) Done refl none
+      ∙ no_room-is store mounts t ours drained led (write_count items) (gains t items - losses t items) (led_grows drained.none) (λ left. record led { checkpoints = left.checkpoints }) Done refl none
       ∙ (λ i. answered_with (lack_of_room t (sym bs i) (sym rs i)) w)
       ∙ ap (λ x. answered_with x w) (sym is)
 

@@ -2,7 +2,7 @@
 use Rattle.std.proofs.Common.{◌≡◌, ℕ, ◌≤◌, Bool, true, false, not, cond, ◌&&◌, ◌||◌, IsSome, is_some, if◌then◌else◌, List, [], ◌∷◌, length, map as list_map, filter, find, Option, Some, None, nat_eq, nat_lt, refl, sym, ap, subst, ◌∙◌, arith}
 use Rattle.std.specs.Ordering.{nat_cmp, eq_by_cmp}
 use Rattle.std.specs.Cmp.Lexicographic.{pointwise}
-use Rattle.std.specs.Option.{option_map, option_and_then, option_map_or}
+use Rattle.std.specs.Option.{option_and_then, option_map_or}
 use Rattle.std.specs.List.{list_any}
 use Rattle.std.specs.FinMap as map
 use Rattle.std.proofs.lemmas.Bool.Decides.{nat_tests}
@@ -23,10 +23,6 @@ use Rattle.ck_files.specs.Reports.{line_on, standing_at, listed}
 abbrev pub checkpoints_in : Store → Table → List (ℕ × Fileset) → List Checkpoint
 checkpoints_in store t es = list_map (λ e. checkpoint_on store t e.0 e.1) (filter (λ e. not e.1.gone) es)
 
--- the checkpoint with this id
-abbrev pub checkpoint_at : Store → Table → ℕ → Option Checkpoint
-checkpoint_at store t id = option_map (checkpoint_on store t id) (map.get t.filesets id)
-
 abbrev ids_of : List (ℕ × Fileset) → List ℕ
 ids_of es = filter (λ id. nat_lt 0 id) (list_map (λ e. e.0) es)
 
@@ -41,23 +37,6 @@ ids_are t e es placed = ap (λ b. cond b (e.0 ∷ ids_of es) (ids_of es)) (some_
 
 named_here : (t : Table) (name : List ℕ) (e : ℕ × Fileset) (es : List (ℕ × Fileset)) → IsPlaced t e es → names.is_named t name e.0 ≡ (not e.1.gone && pointwise nat_eq e.1.name name)
 named_here t name e es placed = ap (λ o. option_map_or (λ (f : Fileset). not f.gone && pointwise nat_eq f.name name) o false) placed.stands
-
-find-named : (store : Store) (t : Table) (name : List ℕ) (es : List (ℕ × Fileset)) → ArePlaced t es
-    → find (is_named name) (checkpoints_in store t es) ≡ option_and_then (checkpoint_at store t) (find (names.is_named t name) (ids_of es))
-find-named store t name [] placed = refl
-find-named store t name (e ∷ es) placed =
-    let rest = find-named store t name es placed.1 in
-    let left : List (ℕ × Fileset) = filter (λ x. not x.1.gone) es in
-    let here : checkpoint_at store t e.0 ≡ Some (checkpoint_on store t e.0 e.1) = ap (option_map (checkpoint_on store t e.0)) placed.0.stands in
-    elim (not e.1.gone) as (λ b. find (is_named name) (list_map (λ (x : ℕ × Fileset). checkpoint_on store t x.0 x.1) (cond b (e ∷ left) left)) ≡ option_and_then (checkpoint_at store t) (cond (b && pointwise nat_eq e.1.name name) (Some e.0) (find (names.is_named t name) (ids_of es)))) [
-      | true ↦ elim (pointwise nat_eq e.1.name name) as (λ v. cond v (Some (checkpoint_on store t e.0 e.1)) (find (is_named name) (checkpoints_in store t es)) ≡ option_and_then (checkpoint_at store t) (cond v (Some e.0) (find (names.is_named t name) (ids_of es)))) [
-        | true ↦ sym here
-        | false ↦ rest
-      ]
-      | false ↦ rest
-    ]
-    ∙ sym (ap (λ b. option_and_then (checkpoint_at store t) (cond b (Some e.0) (find (names.is_named t name) (ids_of es)))) (named_here t name e es placed.0))
-    ∙ sym (ap (λ ids. option_and_then (checkpoint_at store t) (find (names.is_named t name) ids)) (ids_are t e es placed.0))
 
 any-named : (store : Store) (t : Table) (name : List ℕ) (es : List (ℕ × Fileset)) → ArePlaced t es
     → list_any (is_named name) (checkpoints_in store t es) ≡ is_some (find (names.is_named t name) (ids_of es))
@@ -74,10 +53,6 @@ any-named store t name (e ∷ es) placed =
     ]
     ∙ sym (ap (λ b. is_some (cond b (Some e.0) (find (names.is_named t name) (ids_of es)))) (named_here t name e es placed.0))
     ∙ sym (ap (λ ids. is_some (find (names.is_named t name) ids)) (ids_are t e es placed.0))
-
--- the world finds the checkpoint that the table finds
-pub named-is : (store : Store) (t : Table) (name : List ℕ) → IsTable t → find (is_named name) (checkpoints_on store t) ≡ option_and_then (checkpoint_at store t) (names.id_named t name)
-named-is store t name lawful = find-named store t name (map.entries t.filesets) (all_placed t lawful)
 
 pub any_named-is : (store : Store) (t : Table) (name : List ℕ) → IsTable t → list_any (is_named name) (checkpoints_on store t) ≡ is_some (names.id_named t name)
 any_named-is store t name lawful = any-named store t name (map.entries t.filesets) (all_placed t lawful)

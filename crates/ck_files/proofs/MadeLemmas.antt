@@ -1,14 +1,12 @@
 -- A call's changes, one after the other: what is left may be made as before.
-use Rattle.std.proofs.Common.{◌≡◌, ℕ, ◌+◌, ◌-◌, ◌<◌, ◌≤◌, Bool, true, false, not, ◌&&◌, ◌||◌, List, [], ◌∷◌, Some, IfSome, refl, sym, ap, subst, ◌∙◌, inl, inr, arith}
-use Rattle.std.specs.List.{list_any}
+use Rattle.std.proofs.Common.{◌≡◌, ℕ, ◌-◌, ◌<◌, ◌≤◌, Bool, true, false, ◌&&◌, List, [], ◌∷◌, Some, IfSome, refl, sym, subst, ◌∙◌, inl, inr}
 use mathlib.Core.Bool.{false≢true}
 use Rattle.ck_model.specs.declared.change.Change.{Change}
-use Rattle.ck_model.specs.Table.{Table, IsSized, record_count, spare_count}
-use Rattle.ck_model.specs.Chain.{newest_live_of}
+use Rattle.ck_model.specs.Table.{Table, IsSized, spare_count}
 use Rattle.ck_chain.specs.Named.{block_of, IsNamed}
-use Rattle.ck_chain.specs.Changes.{deletions_first, is_deletion, key_of, value_after}
+use Rattle.ck_chain.specs.Changes.{deletions_first, key_of, value_after}
 use Rattle.ck_push.specs.Changed.{changed}
-use Rattle.ck_push.specs.Growth.{gain, loss, gains, losses, growth, one_if, absent_goes}
+use Rattle.ck_push.specs.Growth.{gains, losses}
 use Rattle.ck_push.proofs.RoomLaws.{room_after}
 use Rattle.ck_alloc.specs.Blocks.{Allocation}
 use Rattle.ck_files.specs.Plain.{IsOurs}

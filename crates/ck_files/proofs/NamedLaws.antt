@@ -1,19 +1,11 @@
 -- The two ways to say that a table names a data block.
-use Rattle.std.proofs.Common.{List, [], ◌∷◌, ◌++◌, ◌≡◌, ◌≢◌, ℕ, Bool, true, false, not, ◌&&◌, ◌||◌, Option, Some, None, is_some, IsSome, IfSome, nat_eq, refl, sym, ap, subst, ◌∙◌, ◌⊎◌, inl, inr, arith}
-use Rattle.std.specs.Ordering.{nat_cmp, eq_by_cmp}
-use Rattle.std.specs.Cmp.{unsigned_tied}
-use Rattle.std.specs.FinSet as set
-use Rattle.std.proofs.lemmas.Bool.Decides.{nat_tests}
-use Rattle.std.proofs.lemmas.Cmp.{nat_cmp_total}
+use Rattle.std.proofs.Common.{◌≡◌, ℕ, true, Option, Some, None, is_some, ap}
 use mathlib.Core.Bool.{false≢true}
 use Rattle.ck_model.specs.declared.held.Held.{Held}
 use Rattle.ck_model.specs.declared.held.Held.TheVariants.{Absent, Plain, Extent, Mark}
-use Rattle.ck_model.specs.declared.change.Freed.{Freed}
 use Rattle.ck_model.specs.Table.{Table, column}
 use Rattle.ck_chain.specs.Named.{block_of, IsNamed}
-use Rattle.ck_push.specs.Released.{IsFreed}
-use Rattle.ck_alloc.specs.Blocks.{Allocation, IsPartition}
-use Rattle.ck_files.specs.Allocated.{is_named, is_taken, IsAllocatedBut, AreUnnamed, blocks_held, is_busy, KeepsBusy}
+use Rattle.ck_files.specs.Allocated.{is_named}
 use Rattle.ck_files.proofs.WorldLaws.{column_named}
 use Rattle.ck_files.proofs.AllocatedLaws.{named_entry}
 

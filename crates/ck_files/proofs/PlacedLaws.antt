@@ -1,58 +1,29 @@
 -- A call's planned changes, once the data blocks that they write are stored: they may be made, and lead to the model's world.
-use Rattle.std.proofs.Common.{◌≡◌, ◌≢◌, ℕ, suc, ◌+◌, ◌-◌, ◌*◌, ◌<◌, ◌≤◌, ◌^◌, Bool, is_some, nat_le, true, false, not, ◌&&◌, ◌||◌, Result, Ok, Err, Some, List, [], ◌∷◌, length, nat_eq, nat_lt, replicate, if◌then◌else◌, IfSome, inl, inr, refl, sym, ap, subst, ◌∙◌, arith}
-use Rattle.std.specs.List.{list_any, AllByRecursion}
+use Rattle.std.proofs.Common.{◌≡◌, ℕ, ◌-◌, ◌<◌, ◌≤◌, ◌^◌, true, false, List, [], ◌∷◌, refl, sym, ap, subst, ◌∙◌, arith}
+use Rattle.std.specs.List.{AllByRecursion}
 use Rattle.std.specs.FinMap as map
-use Rattle.std.proofs.lemmas.Bool.{cases_lt}
-use Rattle.std.proofs.lemmas.Bool.Decides.{nat_tests}
-use Rattle.std.proofs.lemmas.List.Elements.{recursion_from_All}
 use mathlib.Core.Bool.{false≢true}
 use Rattle.ck_model.specs.declared.call.Call.{Call}
-use Rattle.ck_model.specs.declared.call.Call.TheVariants as call
-use Rattle.ck_model.specs.declared.cell.Payload.{Payload}
-use Rattle.ck_model.specs.declared.cell.Payload.TheVariants.{File, Dir, Bytes}
 use Rattle.ck_model.specs.declared.change.Change.{Change}
-use Rattle.ck_model.specs.declared.change.Change.TheVariants.{Put, Write, Del}
-use Rattle.ck_model.specs.declared.checkpoint.Counters.{Counters}
-use Rattle.ck_model.specs.declared.held.Held.{Held}
-use Rattle.ck_model.specs.declared.held.Held.TheVariants.{Extent}
-use Rattle.ck_model.specs.declared.held.Small.{Small}
-use Rattle.ck_model.specs.declared.key.Key.{Key}
-use Rattle.ck_model.specs.declared.key.Key.TheVariants.{Block}
-use Rattle.ck_model.specs.declared.reply.Reply.{Reply}
-use Rattle.ck_model.specs.declared.reply.Reply.TheVariants.{Done, IsDir, NotEmpty, Root, TooBig, Spent, NoSpace}
-use Rattle.ck_model.specs.declared.reply.SpaceOf.TheVariants.{Blocks, Records}
-use Rattle.ck_model.specs.History.{is_fault}
-use Rattle.ck_model.specs.Cells.{Cells}
-use Rattle.ck_model.specs.Changes.{cell_of, with_node, without_file, without_directory, renamed, written, resized}
-use Rattle.ck_model.specs.FileCalls.{is_spent, has_names, with_primary, changed_by}
-use Rattle.ck_model.specs.Limits.{file_limit}
+use Rattle.ck_model.specs.declared.reply.Reply.TheVariants.{Done}
+use Rattle.ck_model.specs.FileCalls.{changed_by}
 use Rattle.ck_model.specs.Held.{IsCounters}
-use Rattle.ck_model.specs.Refusals.{and_then, refuse_if}
-use Rattle.ck_model.specs.Rules.{IsSound, stamp_in}
 use Rattle.ck_model.specs.Step.{changing}
-use Rattle.ck_model.specs.Table.{Table, column, record_count, spare_count}
-use Rattle.ck_model.specs.Values.{Store, payload_of}
-use Rattle.ck_model.specs.Walk.{file_at, directory_at, name_at, new_name_at}
-use Rattle.ck_model.specs.World.{World, Mounts}
-use Rattle.ck_model.specs.TableWorld.{world_on, extent_count}
-use Rattle.ck_chain.specs.Named.{block_of, IsNamed}
-use Rattle.ck_chain.specs.Changes.{deletions_first, is_deletion, key_of, value_after}
-use Rattle.ck_push.specs.Changed.{push_of}
-use Rattle.ck_push.specs.Growth.{gain, gains, loss, losses, one_if, write_count}
-use Rattle.ck_tree.specs.declared.fault.TreeFault.{TreeFault}
-use Rattle.ck_tree.specs.declared.fault.TreeFault.TheVariants.{NotFound, NotDir, IsDir as IsDirectory, Exists as Existing, NotEmpty as NotEmptied, Root as AtRoot, TooBig as TooLong, Spent as AllSpent, NoMemory}
-use Rattle.ck_tree.specs.Faults.{reply_of}
-use Rattle.ck_tree.specs.Plan.{IsPlan, IsRefusal, Differ, MayBeMade, block_by, numbers_after, world_after, with_changes as planned_cells}
+use Rattle.ck_model.specs.Table.{Table, spare_count}
+use Rattle.ck_model.specs.Values.{Store}
+use Rattle.ck_model.specs.World.{Mounts}
+use Rattle.ck_model.specs.TableWorld.{world_on}
+use Rattle.ck_chain.specs.Changes.{deletions_first}
+use Rattle.ck_push.specs.Growth.{gains, losses, write_count}
+use Rattle.ck_tree.specs.Plan.{IsPlan, block_by, numbers_after}
 use Rattle.ck_alloc.specs.Blocks.{Allocation}
-use Rattle.ck_files.specs.Allocated.{is_named, is_taken, IsAllocatedBut, SameNamed}
-use Rattle.ck_files.specs.Changes.{raised, IsRaised, with_changes, written_by}
-use Rattle.ck_push.specs.Changes.{MayChangeAll, AllApart, MayChange, changed_all}
-use Rattle.ck_files.specs.Places.{with_places, AreDistinct, ArePlaced, AreHeld}
+use Rattle.ck_files.specs.Allocated.{is_named, IsAllocatedBut, SameNamed}
+use Rattle.ck_files.specs.Changes.{raised, IsRaised, written_by}
+use Rattle.ck_push.specs.Changes.{MayChangeAll, changed_all}
+use Rattle.ck_files.specs.Places.{ArePlaced, AreHeld}
 use Rattle.ck_files.specs.Plain.{IsOurs}
-use Rattle.ck_files.specs.Room.{has_room, lack_of_room, answered_with}
-use Rattle.ck_tree.proofs.MapLaws.{stands_on as stands}
-use Rattle.ck_files.proofs.NamedLaws.{extent_is, is-named, named-is}
-use Rattle.ck_files.proofs.ChangeLemmas.{changing-full, changing-fits}
+use Rattle.ck_files.specs.Room.{has_room, answered_with}
+use Rattle.ck_files.proofs.NamedLaws.{named-is}
 use Rattle.ck_files.proofs.PlacedLemmas.{IsPlace, placed_gains, placed_losses, placed_first, placed_blocks, room_records, planned_up, planned_raised, planned_may, planned-fits}
 
 -- the numbers that are given next after it

@@ -28,7 +28,6 @@ use Rattle.ck_model.specs.FileCalls.{is_spent, has_names, with_primary, changed_
 use Rattle.ck_model.specs.Limits.{file_limit}
 use Rattle.ck_model.specs.Held.{IsCounters}
 use Rattle.ck_model.specs.Refusals.{and_then, refuse_if}
-use Rattle.ck_model.specs.Placed.{NoneGone}
 use Rattle.ck_model.specs.Rules.{IsSound, stamp_in}
 use Rattle.ck_model.specs.Step.{changing}
 use Rattle.ck_model.specs.Table.{Table, column, record_count, spare_count}
@@ -44,15 +43,15 @@ use Rattle.ck_tree.specs.declared.fault.TreeFault.{TreeFault}
 use Rattle.ck_tree.specs.declared.fault.TreeFault.TheVariants.{NotFound, NotDir, IsDir as IsDirectory, Exists as Existing, NotEmpty as NotEmptied, Root as AtRoot, TooBig as TooLong, Spent as AllSpent, NoMemory}
 use Rattle.ck_tree.specs.Faults.{reply_of}
 use Rattle.ck_tree.specs.Plan.{IsPlan, IsRefusal, Differ, MayBeMade, block_by, numbers_after, world_after, with_changes as planned_cells}
-use Rattle.ck_alloc.specs.Blocks.{Allocation}
-use Rattle.ck_files.specs.Allocated.{is_named, is_taken, IsAllocatedBut, SameNamed}
+use Rattle.ck_files.specs.Allocated.{is_taken, SameNamed}
 use Rattle.ck_files.specs.Changes.{raised, IsRaised, with_changes, written_by}
 use Rattle.ck_push.specs.Changes.{MayChangeAll, AllApart, MayChange, changed_all}
-use Rattle.ck_files.specs.Places.{with_places, AreDistinct, ArePlaced, AreHeld}
+use Rattle.ck_files.specs.Places.{with_places, AreDistinct, AreHeld}
+use Rattle.ck_files.specs.Drained.{IsDrained}
 use Rattle.ck_files.specs.Plain.{IsOurs}
 use Rattle.ck_files.specs.Room.{has_room, lack_of_room, answered_with}
 use Rattle.ck_tree.proofs.MapLaws.{stands_on as stands}
-use Rattle.ck_files.proofs.NamedLaws.{extent_is, is-named, named-is}
+use Rattle.ck_files.proofs.NamedLaws.{extent_is, is-named}
 use Rattle.ck_files.proofs.ChangeLemmas.{changing-full, changing-fits}
 
 -- ---- what doesn't depend on the data blocks
@@ -490,10 +489,10 @@ module _ (store : Store) (mounts : Mounts) (t : Table) (c : Call) (changes : Lis
     counted : (b r : ℕ) → b ≡ write_count changes → r ≡ gains t changes - losses t changes → (b ≡ write_count items) × (r ≡ gains t items - losses t items)
     counted b r bs rs = (bs ∙ sym (placed_writes changes places), rs ∙ (λ i. sym (placed_gains t changes places) i - sym (placed_losses t changes places) i))
 
-    full_with : NoneGone t → (b r : ℕ) (reply : Reply) → b ≡ write_count changes → r ≡ gains t changes - losses t changes → has_room t b r ≡ false → reply ≡ lack_of_room t b r → changing w (changed_by w c) ≡ answered_with reply w
-    full_with gone b r reply bs rs full is =
+    full_with : IsDrained t → (b r : ℕ) (reply : Reply) → b ≡ write_count changes → r ≡ gains t changes - losses t changes → has_room t b r ≡ false → reply ≡ lack_of_room t b r → changing w (changed_by w c) ≡ answered_with reply w
+    full_with drained b r reply bs rs full is =
         let n = counted b r bs rs in
-        leads ∙ changing-full store other mounts t next blocks items ours (planned_raised blocks limit) planned_up.stamp same (planned_may places blocks many distinct are most) gone b r reply n.0 n.1 full is
+        leads ∙ changing-full store other mounts t next blocks items ours (planned_raised blocks limit) planned_up.stamp same (planned_may places blocks many distinct are most) drained b r reply n.0 n.1 full is
 
     -- it has room, and its changes are made
     pub planned-fits : has_room t (write_count changes) (gains t changes - losses t changes) ≡ true → blocks ≡ t.blocks → (after : Table) → after ≡ changed_all (raised t next blocks) items t.counters.stamp
@@ -504,9 +503,9 @@ module _ (store : Store) (mounts : Mounts) (t : Table) (c : Call) (changes : Lis
         (write_count changes) (gains t changes - losses t changes) after n.0 n.1 room fixed is
 
   -- it has no room
-  pub planned-full : NoneGone t → (b r : ℕ) (reply : Reply) → b ≡ write_count changes → r ≡ gains t changes - losses t changes → has_room t b r ≡ false → reply ≡ lack_of_room t b r
+  pub planned-full : IsDrained t → (b r : ℕ) (reply : Reply) → b ≡ write_count changes → r ≡ gains t changes - losses t changes → has_room t b r ≡ false → reply ≡ lack_of_room t b r
       → changing w (changed_by w c) ≡ answered_with reply w
-  planned-full gone b r reply bs rs full is =
+  planned-full drained b r reply bs rs full is =
       let blocks = t.blocks + write_count changes in
       let few = few_writes changes in
       let at_most = plan.few in
@@ -514,7 +513,7 @@ module _ (store : Store) (mounts : Mounts) (t : Table) (c : Call) (changes : Lis
       full_with (holding (block_by w c) store t.blocks changes) (places_from t.blocks changes) blocks (many_from t.blocks changes) (distinct_from t.blocks changes)
       (places_are t ours.sound t.blocks blocks changes (omega arith) (omega arith)) (omega arith) (omega (arith, few, at_most, sized))
       (λ block named. holding_below (block_by w c) store t.blocks changes block (below block (is-named t block named)))
-      (held_from (block_by w c) store t.blocks changes) gone b r reply bs rs full is
+      (held_from (block_by w c) store t.blocks changes) drained b r reply bs rs full is
     where
       below : (block : ℕ) → IsNamed t block → block < t.blocks
       below block named = elim (cases_lt block t.blocks) [

@@ -1,5 +1,5 @@
 -- A plan for a table is one for each table that stands for the same world.
-use Rattle.std.proofs.Common.{◌≡◌, ℕ, List, is_some, refl, sym, ap, subst, ◌∙◌}
+use Rattle.std.proofs.Common.{◌≡◌, List, is_some, sym, ap, subst, ◌∙◌}
 use Rattle.std.specs.List.{All}
 use Rattle.std.specs.Option.{option_map}
 use Rattle.std.proofs.lemmas.List.Elements.{All-weaker}

@@ -1,19 +1,12 @@
 -- The map that a fileset stands for over data blocks, as paths and files are looked up in it.
-use Rattle.std.proofs.Common.{◌≡◌, ℕ, ◌<◌, Option, Some, None, is_some, refl, ap, subst, ◌∙◌}
-use Rattle.std.specs.Option.{option_map, option_and_then, ForSome}
+use Rattle.std.proofs.Common.{◌≡◌, ℕ, ◌<◌, Option, Some, None, subst}
+use Rattle.std.specs.Option.{option_and_then, ForSome}
 use Rattle.ck_model.specs.declared.key.Key.{Key}
-use Rattle.ck_model.specs.declared.cell.Cell.{Cell}
 use Rattle.ck_model.specs.declared.held.Held.{Held}
 use Rattle.ck_model.specs.declared.held.Held.TheVariants.{Absent, Plain, Extent, Mark}
-use Rattle.ck_model.specs.declared.held.Small.TheVariants.{To, File, Dir}
 use Rattle.ck_model.specs.Table.{Table}
 use Rattle.ck_model.specs.Chain.{value_at}
 use Rattle.ck_model.specs.Rules.{IsSound, block_in}
-use Rattle.ck_model.specs.Values.{Store, cell_on, cells_on}
-use Rattle.ck_model.specs.TableWorld.{values_of}
-use Rattle.ck_model.proofs.ValueLaws.{get-values_of, get-cells_on}
-use Rattle.ck_model.specs.Values.{payload_of}
-use Rattle.ck_tree.specs.Map.{StandsFor, small_in, without_bytes}
 use Rattle.ck_files.proofs.WorldLaws.{value_column}
 
 -- the data block of a value is below the number of data blocks

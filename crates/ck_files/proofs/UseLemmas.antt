@@ -9,14 +9,12 @@ use mathlib.Core.Bool.{false≢true}
 use Rattle.ck_model.specs.declared.held.Held.{Held}
 use Rattle.ck_model.specs.declared.held.Held.TheVariants.{Absent, Plain, Extent, Mark}
 use Rattle.ck_model.specs.declared.change.Freed.{Freed}
-use Rattle.ck_model.specs.Table.{Table, column}
+use Rattle.ck_model.specs.Table.{Table}
 use Rattle.ck_chain.specs.Named.{block_of, IsNamed}
 use Rattle.ck_push.specs.Released.{IsFreed}
 use Rattle.ck_alloc.specs.Blocks.{Allocation, IsPartition}
-use Rattle.ck_files.specs.Allocated.{is_named, is_taken, IsAllocatedBut, AreUnnamed, blocks_held, is_busy, KeepsBusy}
-use Rattle.ck_files.proofs.WorldLaws.{column_named}
-use Rattle.ck_files.proofs.AllocatedLaws.{named_entry}
-use Rattle.ck_files.proofs.NamedLaws.{extent_is, is-named, named-is}
+use Rattle.ck_files.specs.Allocated.{is_named, is_taken, IsAllocated, IsAllocatedBut, AreUnnamed, blocks_held, is_busy, KeepsBusy}
+use Rattle.ck_files.proofs.NamedLaws.{is-named, named-is}
 
 some_is : (x y : ℕ) → ◌≡◌ {A = Option ℕ} (Some x) (Some y) → x ≡ y
 some_is x y h = cc
@@ -101,7 +99,7 @@ module _ (old new : Table) (freed : Freed) (written rest : List ℕ) (is_freed :
   freed_untaken f h = true_false (is_taken rest f) (λ is. false≢true (sym (unnamed f is) ∙ named-is old f ((is_freed f).0 h).0))
 
   -- it is in use until then
-  pub freed_used : (blocks : Allocation) → IsAllocatedBut (written ++ rest) old blocks → (f : ℕ) → freed.block ≡ Some f → set.contains blocks.used f ≡ true
+  freed_used : (blocks : Allocation) → IsAllocatedBut (written ++ rest) old blocks → (f : ℕ) → freed.block ≡ Some f → set.contains blocks.used f ≡ true
   freed_used blocks allocated f h = allocated.used f ∙ left_true (is_named old f) (is_taken (written ++ rest) f) (named-is old f ((is_freed f).0 h).0)
 
   -- nothing was freed
@@ -174,6 +172,18 @@ busy_after freed blocks left given =
       | None ↦ λ none _. busy_same blocks left (given.same none)
       | Some f ↦ λ is after. busy_given blocks left f after
     ] refl given.given
+
+-- ---- a change that nobody sees: no block is named anew
+
+module _ (old new : Table) (freed : Freed) (is_freed : IsFreed old new freed) (named : (block : ℕ) → IsNamed new block → IsNamed old block) where
+  pub freed_unseen : (blocks : Allocation) → IsAllocated old blocks → IfSome freed.block (λ block. set.contains blocks.used block ≡ true)
+  freed_unseen blocks allocated =
+      each_some freed.block (λ block. set.contains blocks.used block ≡ true) (λ block is.
+      freed_used old new freed [] [] is_freed (λ b h. inl (named b h)) (λ b took. absurd (false≢true took)) (λ b took. absurd (false≢true took)) blocks allocated block is)
+
+  pub allocated_unseen : (blocks left : Allocation) → IsAllocated old blocks → new.blocks ≡ old.blocks → IsGivenUp blocks left freed → IsAllocated new left
+  allocated_unseen blocks left allocated limit given =
+      allocated_after old new freed [] [] is_freed (λ b h. inl (named b h)) (λ b took. absurd (false≢true took)) (λ b took. absurd (false≢true took)) blocks left allocated limit given
 
 -- the block of a value, among those that it names
 pub held_block : (o : Option Held) (block : ℕ) → block_of o ≡ Some block → is_taken (blocks_held o) block ≡ true

@@ -23,11 +23,10 @@ use Rattle.ck_model.proofs.ValueLaws.{get-values_of, get-cells_on}
 use Rattle.ck_chain.specs.Changes.{key_of, value_after}
 use Rattle.ck_chain.proofs.ColumnLaws.{same_or_other}
 use Rattle.ck_push.specs.Changed.{changed}
+use Rattle.ck_table.proofs.ShownLaws.{checkpoints_seen}
 use Rattle.ck_push.proofs.ChangeLaws.{changed_reads, primary_changed, others_stay, lawful_after, sound_after, may_all_after}
-use Rattle.ck_files.specs.Plain.{IsPlain}
 use Rattle.ck_files.specs.Changes.{with_changes}
 use Rattle.ck_push.specs.Changes.{MayChangeAll, changed_all}
-use Rattle.ck_files.proofs.Checkpoints.{checkpoints_kept}
 
 pub get-set_cell : (cells : Cells) (key : Key) (o : Option Cell) (q : Key) → map.get (set_cell cells key o) q ≡ cond (eq_by_cmp key_cmp q key) o (map.get cells q)
 get-set_cell cells key None q = map.get-remove key_cmp_total cells key q
@@ -69,10 +68,10 @@ primary_after store t key new lawful own = map.same_map key_cmp_total key_cmp_ex
     ]
 
 -- the world after a change: the checkpoints keep their contents
-pub world_changed : (store : Store) (mounts : Mounts) (t : Table) (key : Key) (new : Option Held) → IsTable t → IsPlain t → IfSome new IsOwn
+pub world_changed : (store : Store) (mounts : Mounts) (t : Table) (key : Key) (new : Option Held) → IsTable t → IsTable (changed t key new) → IfSome new IsOwn
     → world_on store mounts (changed t key new) ≡ record (world_on store mounts t) { primary = set_cell (world_on store mounts t).primary key (option_map (cell_on store) new) }
-world_changed store mounts t key new lawful plain own =
-    let kept = checkpoints_kept t (changed t key new) lawful plain (record { filesets = refl; kept = λ fs q live. changed_reads t key new lawful fs q live }) store in
+world_changed store mounts t key new lawful after own =
+    let kept = checkpoints_seen store t (changed t key new) lawful after refl (λ fs q live. changed_reads t key new lawful fs q live) in
     λ i. record {
       limits = (world_on store mounts t).limits;
       primary = primary_after store t key new lawful own i;
@@ -87,10 +86,11 @@ own_after (Write number index block) stamp = tt
 own_after (Del key) stamp = tt
 
 -- the world after several
-pub world_changed_all : (store : Store) (mounts : Mounts) (t : Table) (items : List Change) (stamp : ℕ) → IsTable t → IsSound t → IsPlain t → stamp < t.counters.stamp → MayChangeAll t items stamp
+pub world_changed_all : (store : Store) (mounts : Mounts) (t : Table) (items : List Change) (stamp : ℕ) → IsTable t → IsSound t → stamp < t.counters.stamp → MayChangeAll t items stamp
     → world_on store mounts (changed_all t items stamp) ≡ record (world_on store mounts t) { primary = with_changes store (world_on store mounts t).primary items stamp }
-world_changed_all store mounts t [] stamp lawful sound plain below may = refl
-world_changed_all store mounts t (item ∷ items) stamp lawful sound plain below may =
+world_changed_all store mounts t [] stamp lawful sound below may = refl
+world_changed_all store mounts t (item ∷ items) stamp lawful sound below may =
     let u = changed t (key_of item) (value_after item stamp) in
-    world_changed_all store mounts u items stamp (lawful_after t item stamp lawful sound below may.0) (sound_after t item stamp lawful sound below may.0) plain below (may_all_after t item stamp lawful sound below may.0 items may.1 may.2)
-    ∙ ap (λ (w : World). record w { primary = with_changes store w.primary items stamp }) (world_changed store mounts t (key_of item) (value_after item stamp) lawful plain (own_after item stamp))
+    let after = lawful_after t item stamp lawful sound below may.0 in
+    world_changed_all store mounts u items stamp after (sound_after t item stamp lawful sound below may.0) below (may_all_after t item stamp lawful sound below may.0 items may.1 may.2)
+    ∙ ap (λ (w : World). record w { primary = with_changes store w.primary items stamp }) (world_changed store mounts t (key_of item) (value_after item stamp) lawful after (own_after item stamp))

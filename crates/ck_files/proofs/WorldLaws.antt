@@ -21,7 +21,7 @@ use Rattle.ck_model.proofs.ValueLaws.{get-values_of, get-cells_on}
 use Rattle.ck_files.specs.Allocated.{is_named, SameNamed}
 
 -- what two maps of values stand for is the same where each key's cell is
-pub cells_same : (old new : Store) (a b : Values) → ((q : Key) → option_map (cell_on old) (map.get a q) ≡ option_map (cell_on new) (map.get b q)) → cells_on old a ≡ cells_on new b
+cells_same : (old new : Store) (a b : Values) → ((q : Key) → option_map (cell_on old) (map.get a q) ≡ option_map (cell_on new) (map.get b q)) → cells_on old a ≡ cells_on new b
 cells_same old new a b same = map.same_map key_cmp_total key_cmp_exact (cells_on old a) (cells_on new b) (λ q. get-cells_on old a q ∙ same q ∙ sym (get-cells_on new b q))
 
 -- ---- a value is an entry of some fileset

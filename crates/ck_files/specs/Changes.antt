@@ -1,21 +1,13 @@
 -- Several changes of the primary, made by one call.
-use Rattle.std.specs.Prelude.{◌≡◌, ◌≢◌, ◌<◌, ◌≤◌, ⊤, ℕ, true, List, [], ◌∷◌, ◌++◌, Option, Some, None, IsSome, IfSome}
+use Rattle.std.specs.Prelude.{◌≤◌, ℕ, List, [], ◌∷◌, ◌++◌}
 use Rattle.std.specs.Option.{option_map}
-use Rattle.std.specs.FinMap as map
-use Rattle.ck_push.specs.Changes.{MayChange, IsApart, AllApart}
-use Rattle.ck_model.specs.declared.key.Key.{Key}
-use Rattle.ck_model.specs.declared.cell.Cell.{Cell}
-use Rattle.ck_model.specs.declared.held.Held.{Held}
 use Rattle.ck_model.specs.declared.change.Change.{Change}
 use Rattle.ck_model.specs.Cells.{Cells, set_cell}
 use Rattle.ck_model.specs.declared.checkpoint.Counters.{Counters}
-use Rattle.ck_model.specs.Held.{IsEntry, IsKey, IsCounters}
+use Rattle.ck_model.specs.Held.{IsCounters}
 use Rattle.ck_model.specs.Values.{Store, cell_on}
-use Rattle.ck_model.specs.Table.{Table, column}
-use Rattle.ck_model.specs.Rules.{KeyBelow, HeldBelow, stamp_in}
-use Rattle.ck_chain.specs.Named.{block_of, IsNamed}
-use Rattle.ck_chain.specs.Changes.{key_of, is_deletion, value_after}
-use Rattle.ck_push.specs.Changed.{changed}
+use Rattle.ck_model.specs.Table.{Table}
+use Rattle.ck_chain.specs.Changes.{key_of, value_after}
 use Rattle.ck_files.specs.Allocated.{blocks_held}
 
 -- ---- what the primary map comes to

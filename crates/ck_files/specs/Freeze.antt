@@ -1,5 +1,5 @@
 -- A new checkpoint: the reply where it is refused, and what it changes of the table.
-use Rattle.std.specs.Prelude.{◌≡◌, ◌<◌, ℕ, Bool, false, List, Result, Ok, Err, IsSome}
+use Rattle.std.specs.Prelude.{◌≡◌, ◌<◌, ℕ, Bool, List, Result, Ok, Err, IsSome}
 use Rattle.ck_model.specs.declared.call.Call.{Call}
 use Rattle.ck_model.specs.declared.call.Call.TheVariants.{Create}
 use Rattle.ck_model.specs.declared.reply.Reply.{Reply}

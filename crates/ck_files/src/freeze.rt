@@ -10,9 +10,9 @@ ghost use Rattle.ck_model.specs.Values.{Store};
 ghost use Rattle.ck_model.specs.TableWorld.{world_on};
 ghost use Rattle.ck_table.specs.Added.{new_fileset, new_id, with_added};
 ghost use Rattle.ck_files.specs.Freeze.{refusal_of, refused_or};
-ghost use Rattle.ck_model.specs.Placed.{NoneGone};
 ghost use Rattle.ck_model.specs.Table.{spare_count};
 ghost use Rattle.ck_files.specs.Allocated.{KeepsBusy, IsAllocated};
+ghost use Rattle.ck_files.specs.Drained.{IsDrained};
 ghost use Rattle.ck_files.specs.Files.{AreFiles};
 ghost use Rattle.ck_files.specs.Plain.{IsOurs};
 ghost use Rattle.ck_files.specs.Worlds.{StandAlike};
@@ -68,7 +68,7 @@ fn add_checkpoint<M: Meta>(
 ) -> Reply
     requires ours { IsOurs (M.table meta.old) }
     requires limits { limits ≡ limits_of (M.table meta.old) }
-    requires full { spare_count (M.table meta.old) ≡ 0 → NoneGone (M.table meta.old) }
+    requires full { spare_count (M.table meta.old) ≡ 0 → IsDrained (M.table meta.old) }
     requires name { IsCheckpointName name.now }
     ensures reply { (store : Store) (mounts : Mounts) →
         created (world_on store mounts (M.table meta.old)) name.now nodata false at
@@ -101,7 +101,7 @@ fn free_record<M: Meta>(meta: &mut M, blocks: &mut Blocks, stripped: &mut StripI
     ensures allocated { IsAllocated (M.table meta.new) blocks.new }
     ensures busy { KeepsBusy blocks.old blocks.new }
     ensures at_once { 0 < spare_count (M.table meta.old) → M.table meta.new ≡ M.table meta.old }
-    ensures full { spare_count (M.table meta.new) ≡ 0 → NoneGone (M.table meta.new) }
+    ensures full { spare_count (M.table meta.new) ≡ 0 → IsDrained (M.table meta.new) }
     ensures stripped { IsStrippedTo (M.table meta.new) stripped.new }
 {
     if meta.spare() == 0 {

@@ -1,10 +1,12 @@
 ghost use Rattle.std.specs.Prelude.{◌≡◌, false, IfOk};
+ghost use Rattle.ck_model.specs.Cells.{Cells};
 ghost use Rattle.ck_model.specs.History.{is_fault};
 ghost use Rattle.ck_model.specs.ReadCalls.{checkpoint_names, names_listed, stat_reply, status_of};
 ghost use Rattle.ck_model.specs.TableWorld.{values_of, world_on};
 ghost use Rattle.ck_model.specs.Step.{answered};
 ghost use Rattle.ck_model.specs.Values.{Store, cells_on};
 ghost use Rattle.ck_model.specs.World.{Mounts, World};
+ghost use Rattle.ck_tree.specs.Map.{StandsFor};
 ghost use Rattle.ck_files.specs.Plain.{IsOurs};
 ghost use Rattle.ck_files.specs.Room.{answered_with};
 
@@ -14,9 +16,8 @@ use ck_tree::{children, directory_at, is_directory_at, node_at, size_at};
 use std::alloc::Global;
 
 fn names_in<M: Meta>(alloc: Global, meta: &M, fs: u32, path: &Path) -> Result<Reply, NoMemory>
-    ensures reply { IfOk result (λ reply. (store : Store) (w : World) →
-        answered w (names_listed (cells_on store (values_of (M.table meta.now) fs)) path.now)
-        ≡ answered_with reply w) }
+    ensures reply { IfOk result (λ reply. (cells : Cells) (w : World) → StandsFor (M.table meta.now) fs cells →
+        answered w (names_listed cells path.now) ≡ answered_with reply w) }
     ensures ordinary { IfOk result (λ reply. is_fault reply ≡ false) }
 {
     match directory_at(meta, fs, path.items()) {

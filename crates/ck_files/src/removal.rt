@@ -1,4 +1,4 @@
-ghost use Rattle.std.specs.Prelude.{◌≡◌, ◌+◌, true, false};
+ghost use Rattle.std.specs.Prelude.{◌≡◌, ◌≤◌, ◌<◌, ◌+◌, true, false};
 ghost use Rattle.ck_model.specs.CheckpointCalls.{dropped};
 ghost use Rattle.ck_model.specs.History.{is_fault};
 ghost use Rattle.ck_model.specs.Placed.{NoneGone};
@@ -9,7 +9,7 @@ ghost use Rattle.ck_model.specs.World.{Mounts};
 ghost use Rattle.ck_model.specs.declared.reply.Reply.TheVariants.{Done};
 ghost use Rattle.ck_remove.specs.Gone.{left_of};
 ghost use Rattle.ck_nodata.specs.declared.item.StripItem.{StripItem};
-ghost use Rattle.ck_nodata.specs.StripItem.{IsStrippedTo};
+ghost use Rattle.ck_nodata.specs.StripItem.{unstripped_count, IsStrippedTo};
 ghost use Rattle.ck_files.specs.Allocated.{KeepsBusy, IsAllocated};
 ghost use Rattle.ck_files.specs.Drained.{IsDrained, IsStepped};
 ghost use Rattle.ck_files.specs.Plain.{IsOurs};
@@ -63,6 +63,7 @@ fn remove_next<M: Meta>(meta: &mut M, blocks: &mut Blocks) -> bool
     ensures left { result ≡ true → left_of (M.table meta.new) + 1 ≡ left_of (M.table meta.old) }
     ensures none { result ≡ false → NoneGone (M.table meta.new) }
     ensures untouched { result ≡ false → M.table meta.new ≡ M.table meta.old }
+    ensures no_more { unstripped_count (M.table meta.new) ≤ unstripped_count (M.table meta.old) }
     ensures stripped { (last : StripItem) → IsStrippedTo (M.table meta.old) last → IsStrippedTo (M.table meta.new) last }
 {
     let Some(item) = work(meta) else {
@@ -85,6 +86,8 @@ pub fn step<M: Meta>(meta: &mut M, blocks: &mut Blocks, stripped: &mut StripItem
     ensures busy { KeepsBusy blocks.old blocks.new }
     ensures stripped { IsStrippedTo (M.table meta.new) stripped.new }
     ensures stepped { result ≡ true → IsStepped (M.table meta.old) (M.table meta.new) }
+    ensures fewer { result ≡ true → left_of (M.table meta.new) + unstripped_count (M.table meta.new)
+        < left_of (M.table meta.old) + unstripped_count (M.table meta.old) }
     ensures drained { result ≡ false → IsDrained (M.table meta.new) }
 {
     remove_next(meta, blocks) || strip_next(meta, blocks, stripped)

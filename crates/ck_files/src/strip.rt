@@ -47,22 +47,19 @@ pub(crate) fn strip_next<M: Meta>(
     ensures allocated { IsAllocated (M.table meta.new) blocks.new }
     ensures busy { KeepsBusy blocks.old blocks.new }
     ensures stripped { IsStrippedTo (M.table meta.new) stripped.new }
+    ensures filesets { (M.table meta.new).filesets ≡ (M.table meta.old).filesets }
     ensures left { result ≡ true → unstripped_count (M.table meta.new) + 1 ≡ unstripped_count (M.table meta.old) }
     ensures untouched { result ≡ false → M.table meta.new ≡ M.table meta.old }
     ensures none { result ≡ false → unstripped_count (M.table meta.new) ≡ 0 }
 {
-    match strip_work_behind(meta, *stripped) {
-        Some(item) => {
-            let freed = strip(meta, item);
-            give_up(blocks, freed);
-            *stripped = item;
-            true
-        }
-        None => {
-            stripped.id = LAST_ID;
-            false
-        }
-    }
+    let Some(item) = strip_work_behind(meta, *stripped) else {
+        stripped.id = LAST_ID;
+        return false;
+    };
+    *stripped = item;
+    let freed = strip(meta, *stripped);
+    give_up(blocks, freed);
+    true
 }
 
 /// Whether a data block of this checkpoint is left to strip.

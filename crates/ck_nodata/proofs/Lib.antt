@@ -6,3 +6,4 @@ pub mod PlaceLemmas
 pub mod StrippedLaws
 pub mod PlaceLaws
 pub mod HeldLaws
+pub mod WorkLaws

@@ -35,7 +35,7 @@ find_filtered p q (x ∷ xs) wider =
     ] refl
 
 -- of its checkpoint the first one is behind it
-same_in : (t : Table) (last : StripItem) → IsStrippedTo t last → strip_in t last.id (Some last.key) ≡ strip_in t last.id None
+pub same_in : (t : Table) (last : StripItem) → IsStrippedTo t last → strip_in t last.id (Some last.key) ≡ strip_in t last.id None
 same_in t last done =
     elim (drops_data t last.id) as (λ b. drops_data t last.id ≡ b → (if b then option_map (item_at last.id) (first_extent t last.id (Some last.key)) else None) ≡ (if b then option_map (item_at last.id) (first_extent t last.id None) else None)) [
       | false ↦ λ _. refl
@@ -54,7 +54,7 @@ strip_in_id t fs after =
     ]
 
 -- older checkpoints have none
-none_lower : (t : Table) (last : StripItem) → IsStrippedTo t last → (fs : ℕ) → fs < last.id → strip_in t fs None ≡ None
+pub none_lower : (t : Table) (last : StripItem) → IsStrippedTo t last → (fs : ℕ) → fs < last.id → strip_in t fs None ≡ None
 none_lower t last done fs lower =
     elim (strip_in t fs None) as (λ o. IfSome o (λ item. item.id ≡ fs) → IfSome o (λ item. is_unstripped t item.id item.key ≡ true) → o ≡ None) [
       | None ↦ λ _ _. refl
@@ -126,7 +126,7 @@ found_newer t last done none =
       | inr ge ↦ let same : last.id ≡ fs = omega (arith, le, ge) in subst (λ n. strip_in t n None ≡ None) same (sym (same_in t last done) ∙ none)
     ])
 
-none_is : (o : Option StripItem) → is_some o ≡ false → o ≡ None
+pub none_is : (o : Option StripItem) → is_some o ≡ false → o ≡ None
 none_is None h = refl
 none_is (Some item) h = absurd (true≢false h)
 

@@ -1,4 +1,4 @@
-use Rattle.std.proofs.Common.{◌≡◌, ◌≤◌, ◌-◌, List, length, refl, sym, subst}
+use Rattle.std.proofs.Common.{◌≤◌, ◌-◌, List, length, refl, sym, subst}
 use Rattle.ck_model.specs.declared.change.Change.{Change}
 use Rattle.ck_push.specs.Growth.{gains, losses, write_count}
 use Rattle.ck_files.specs.Planned.{IsPlanned}
@@ -32,5 +32,5 @@ returns-in-Err-make_room-clause-planned g c =
     let lack : IsLacking u changes c.in-Err-make_room.reply = subst (λ (items : List Change). IsLacking u items c.in-Err-make_room.reply) c.deref.ensures.value c.in-Err-make_room.ensures.lack in (
       lack-ordinary u (write_count changes) (gains u changes - losses u changes) c.in-Err-make_room.reply lack.reply,
       λ store mounts.
-          planned-full store mounts u call changes c.in-Err-make_room.ensures.files.ours plan lack.none (write_count changes) (gains u changes - losses u changes) c.in-Err-make_room.reply refl refl lack.full lack.reply,
+          planned-full store mounts u call changes c.in-Err-make_room.ensures.files.ours plan lack.drained (write_count changes) (gains u changes - losses u changes) c.in-Err-make_room.reply refl refl lack.full lack.reply,
     )

@@ -1,5 +1,6 @@
-use Rattle.std.proofs.Common.{ℕ}
+use Rattle.std.proofs.Common.{◌+◌}
 use Rattle.ck_remove.specs.Gone.{left_of}
+use Rattle.ck_nodata.specs.StripItem.{unstripped_count, IsStrippedTo}
 use Rattle.ck_files.specs.Allocated.{KeepsBusy, IsAllocated}
 use Rattle.ck_files.specs.Plain.{IsOurs}
 use Rattle.ck_files.specs.Worlds.{StandAlike}
@@ -11,7 +12,8 @@ invariant-loop g l = record {
   ours : IsOurs (g.M.Meta.table l.meta);
   allocated : IsAllocated (g.M.Meta.table l.meta) l.blocks;
   busy : KeepsBusy l.initial.blocks l.blocks;
+  stripped : IsStrippedTo (g.M.Meta.table l.meta) l.stripped;
 }
 
 abbrev pub decreases-loop : goal.decreases-loop
-decreases-loop g l = left_of (g.M.Meta.table l.meta)
+decreases-loop g l = left_of (g.M.Meta.table l.meta) + unstripped_count (g.M.Meta.table l.meta)

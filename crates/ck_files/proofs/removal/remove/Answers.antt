@@ -1,11 +1,14 @@
-use Rattle.std.proofs.Common.{◌≡◌, sym, ap, subst, ◌∙◌}
-use Rattle.ck_model.specs.declared.reply.Reply.TheVariants.{Done, NoCkpt}
-use Rattle.ck_model.specs.Chain.{value_of}
-use Rattle.ck_model.specs.Table.{IsTable}
+use Rattle.std.proofs.Common.{refl, sym, ap, subst, ◌∙◌}
+use Rattle.ck_model.specs.declared.reply.Reply.TheVariants.{Done}
+use Rattle.ck_model.specs.Step.{done}
 use Rattle.ck_model.specs.TableWorld.{world_on}
+use Rattle.ck_table.specs.Gone.{as_gone}
+use Rattle.ck_table.proofs.WorldLaws.{dropped-is, dropped-none, named_live}
+use Rattle.ck_nodata.specs.StripItem.{IsStrippedTo}
 use Rattle.ck_files.specs.Plain.{IsPlain}
 use Rattle.ck_files.specs.Room.{answered_with}
-use Rattle.ck_files.proofs.RemovalLemmas.{named_live, plain_gone, removed-done, removed-unnamed}
+use Rattle.ck_files.proofs.CheckpointLemmas.{place_gone}
+use Rattle.ck_files.proofs.PlainLemmas.{plain_changed}
 use Rattle.ck_files.proofs.removal.remove.Goals as goal
 
 pub mark_gone-requires-clause-live : goal.mark_gone-requires-clause-live
@@ -14,21 +17,24 @@ mark_gone-requires-clause-live g c = named_live (g.M.Meta.table c.args.meta.now)
 pub returns-in-Some-clause-reply : goal.returns-in-Some-clause-reply
 returns-in-Some-clause-reply g c store mounts =
     let t = g.M.Meta.table c.args.meta.now in
-    let id = c.in-Some.id in
-    let same = c.mark_gone.ensures.table in
-    removed-done store mounts t (g.met.M.Meta.lawful c.args.meta.now) c.args.name.now id (sym c.in-Some.ensures.id) c.in-Some.ensures.found
-    (subst IsTable same (g.met.M.Meta.lawful c.mark_gone.new.meta))
-    (λ fs key. ap (λ u. value_of u fs key) (sym same) ∙ c.mark_gone.ensures.values fs key)
-    ∙ ap (λ u. answered_with Done (world_on store mounts u)) (sym same)
+    ap (done (world_on store mounts t)) (dropped-is store mounts t c.requires.ours.lawful c.args.name.now c.in-Some.id (sym c.in-Some.ensures.id) c.in-Some.ensures.found)
+    ∙ ap (λ u. answered_with Done (world_on store mounts u)) (sym c.mark_gone.ensures.table)
 
 pub returns-in-Some-clause-ours : goal.returns-in-Some-clause-ours
 returns-in-Some-clause-ours g c = record {
   lawful = g.met.M.Meta.lawful c.mark_gone.new.meta;
   sized = g.met.M.Meta.sized c.mark_gone.new.meta;
   sound = c.mark_gone.ensures.sound;
-  plain = subst IsPlain (sym c.mark_gone.ensures.table) (plain_gone (g.M.Meta.table c.args.meta.now) c.in-Some.id c.requires.ours.plain);
+  plain = subst IsPlain (sym c.mark_gone.ensures.table) (plain_changed (g.M.Meta.table c.args.meta.now) c.in-Some.id as_gone (λ f. refl) c.requires.ours.plain);
 }
+
+pub returns-in-Some-clause-stripped : goal.returns-in-Some-clause-stripped
+returns-in-Some-clause-stripped g c =
+    let t = g.M.Meta.table c.args.meta.now in
+    subst (λ u. IsStrippedTo u c.go_back.new.stripped) (sym c.mark_gone.ensures.table)
+    (place_gone t c.in-Some.id (named_live t c.args.name.now c.in-Some.id c.in-Some.ensures.found) c.args.stripped.now c.go_back.new.stripped c.requires.stripped c.go_back.ensures.back c.go_back.ensures.same)
 
 pub returns-in-None-clause-reply : goal.returns-in-None-clause-reply
 returns-in-None-clause-reply g c store mounts =
-    removed-unnamed store mounts (g.M.Meta.table c.args.meta.now) (g.met.M.Meta.lawful c.args.meta.now) c.args.name.now (sym c.in-None.ensures.id)
+    let t = g.M.Meta.table c.args.meta.now in
+    ap (done (world_on store mounts t)) (dropped-none store mounts t c.requires.ours.lawful c.args.name.now (sym c.in-None.ensures.id))

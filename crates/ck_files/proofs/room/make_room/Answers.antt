@@ -1,4 +1,4 @@
-use Rattle.std.proofs.Common.{◌≡◌, ◌<◌, sym, subst}
+use Rattle.std.proofs.Common.{◌<◌, sym, subst}
 use Rattle.ck_files.proofs.PlacedLemmas.{few_of_plan}
 use Rattle.ck_files.proofs.room.make_room.Goals as goal
 

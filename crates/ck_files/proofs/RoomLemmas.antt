@@ -1,7 +1,6 @@
 -- A call has room in a volume's table exactly where it has room in the world.
-use Rattle.std.proofs.Common.{◌≡◌, ℕ, zero, suc, ◌+◌, ◌-◌, ◌≤◌, Bool, true, false, not, cond, ◌&&◌, IsSome, is_some, if◌then◌else◌, List, [], ◌∷◌, map as list_map, find, length, Option, Some, None, nat_le, refl, sym, ap, ◌∙◌, inl, inr, arith}
+use Rattle.std.proofs.Common.{◌≡◌, ℕ, zero, suc, ◌+◌, ◌-◌, ◌≤◌, Bool, true, false, not, cond, ◌&&◌, if◌then◌else◌, List, [], ◌∷◌, map as list_map, filter, find, length, Some, None, nat_le, refl, sym, ap, ◌∙◌, inl, inr, arith}
 use Rattle.std.specs.Option.{option_or, option_map, option_map_or}
-use Rattle.std.specs.List.{AllByRecursion}
 use Rattle.std.specs.FinMap as map
 use Rattle.std.proofs.lemmas.Bool.Decides.{nat_tests}
 use mathlib.Core.Bool.{false≢true}
@@ -10,75 +9,40 @@ use Rattle.ck_model.specs.declared.reply.Reply.TheVariants.{NoSpace}
 use Rattle.ck_model.specs.declared.reply.SpaceOf.TheVariants.{Blocks, Records}
 use Rattle.ck_model.specs.declared.checkpoint.Fileset.{Fileset}
 use Rattle.ck_model.specs.World.{World, Checkpoint, Mounts, keeps_files, without_checkpoint}
-use Rattle.ck_model.specs.Space.{held, records_in, fits, pick, oldest_removable, given_up, without_picks, no_space}
+use Rattle.ck_model.specs.Space.{held, records_in, fits, pick, given_up, without_picks, no_space}
 use Rattle.ck_model.specs.Step.{Outcome, with_room}
 use Rattle.ck_model.specs.Table.{Table, IsTable, record_count}
-use Rattle.ck_model.specs.Rules.{IsSound}
 use Rattle.ck_model.specs.Values.{Store}
-use Rattle.ck_model.specs.TableWorld.{checkpoint_on, live_filesets, world_on, extent_count}
-use Rattle.ck_model.proofs.CountLaws.{records_are, extents_are}
-use Rattle.ck_model.proofs.CaseLaws.{some_is}
-use Rattle.ck_remove.proofs.DrainLaws.{drained}
-use Rattle.ck_remove.proofs.WorldLaws.{unseen_world}
-use Rattle.ck_model.specs.Placed.{NoneGone, AllStripped}
+use Rattle.ck_model.specs.TableWorld.{checkpoint_on, world_on, extent_count}
+use Rattle.ck_model.specs.Placed.{ArePlaced}
+use Rattle.ck_model.proofs.CountLaws.{all_placed}
+use Rattle.ck_nodata.proofs.HeldLaws.{held-is, held-within, records-is}
+use Rattle.ck_files.specs.Drained.{IsDrained}
 use Rattle.ck_files.specs.Plain.{IsPlain, IsOurs}
 use Rattle.ck_files.specs.Room.{Grows, has_room, lack_of_room, answered_with}
-use Rattle.ck_files.proofs.Checkpoints.{keeps_itself}
-use Rattle.ck_files.proofs.LiveLemmas.{Stands, each_stands}
-use Rattle.ck_files.proofs.UnseenLemmas.{plain_unseen}
-
-pub all_stripped : (t : Table) → IsTable t → IsSound t → IsPlain t → NoneGone t → AllStripped t
-all_stripped t lawful sound plain none fs key stamp block has = elim (sound.orderly.homes fs key (ap is_some has)) [
-  | inl first ↦ inl first
-  | inr there ↦
-      let f = some_is (map.get t.filesets fs) there in
-      inr (keeps_itself t (fs, f.0) (lawful.filesets fs f.0 f.1).some (record { there = f.1; live = none fs f.0 f.1 }) (plain fs f.0 f.1))
-]
-
--- where no checkpoint is gone, the records and data blocks of a volume's table are those of its world
-pub held-is : (store : Store) (mounts : Mounts) (t : Table) → IsTable t → IsSound t → IsPlain t → NoneGone t → held (world_on store mounts t) ≡ extent_count t
-held-is store mounts t lawful sound plain none = sym (extents_are store mounts t lawful sound none (all_stripped t lawful sound plain none))
-
-pub records-is : (store : Store) (mounts : Mounts) (t : Table) → IsTable t → IsSound t → NoneGone t → records_in (world_on store mounts t) ≡ record_count t
-records-is store mounts t lawful sound none = sym (records_are store mounts t lawful sound none)
-
--- elsewhere they may be more: those of what is gone
-module _ (store : Store) (mounts : Mounts) (t : Table) (lawful : IsTable t) (sound : IsSound t) (plain : IsPlain t) where
-  pub held-within : held (world_on store mounts t) ≤ extent_count t
-  held-within =
-      let u = drained t lawful sound in
-      let is = u.1 in
-      let same = ap held (unseen_world t u.0 lawful is.lawful is.unseen store mounts) in
-      let counted = held-is store mounts u.0 is.lawful is.sound (plain_unseen t u.0 plain is.unseen) is.none in
-      let less = is.unseen.extents in
-      omega (arith, same, counted, less)
-
-  pub records-within : records_in (world_on store mounts t) ≤ record_count t
-  records-within =
-      let u = drained t lawful sound in
-      let is = u.1 in
-      let same = ap records_in (unseen_world t u.0 lawful is.lawful is.unseen store mounts) in
-      let counted = records-is store mounts u.0 is.lawful is.sound is.none in
-      let less = is.unseen.records in
-      omega (arith, same, counted, less)
 
 -- ---- none is given up
 
-none_removable : (store : Store) (t : Table) (keeps : Bool) (es : List (ℕ × Fileset)) → AllByRecursion (λ e. e.1.removable ≡ false) es
-    → find (λ (checkpoint : Checkpoint). checkpoint.removable && (if keeps then keeps_files checkpoint.kind else not (keeps_files checkpoint.kind))) (list_map (λ e. checkpoint_on store t e.0 e.1) es) ≡ None
-none_removable store t keeps [] all = refl
-none_removable store t keeps (e ∷ es) all =
-    ap (λ b. cond (b && (if keeps then keeps_files e.1.kind else not (keeps_files e.1.kind))) (Some (checkpoint_on store t e.0 e.1)) (find (λ (checkpoint : Checkpoint). checkpoint.removable && (if keeps then keeps_files checkpoint.kind else not (keeps_files checkpoint.kind))) (list_map (λ e. checkpoint_on store t e.0 e.1) es))) all.0
-    ∙ none_removable store t keeps es all.1
+abbrev is_picked : Bool → Checkpoint → Bool
+is_picked keeps checkpoint = checkpoint.removable && (if keeps then keeps_files checkpoint.kind else not (keeps_files checkpoint.kind))
 
-none_of_live : (t : Table) → IsPlain t → (es : List (ℕ × Fileset)) → AllByRecursion (Stands t) es → AllByRecursion (λ (e : ℕ × Fileset). e.1.removable ≡ false) es
-none_of_live t plain [] all = tt
-none_of_live t plain (e ∷ es) all = ((plain e.0 e.1 all.0.there).stays, none_of_live t plain es all.1)
+none_removable : (store : Store) (t : Table) → IsPlain t → (keeps : Bool) (es : List (ℕ × Fileset)) → ArePlaced t es
+    → find (is_picked keeps) (list_map (λ e. checkpoint_on store t e.0 e.1) (filter (λ (e : ℕ × Fileset). not e.1.gone) es)) ≡ None
+none_removable store t plain keeps [] placed = refl
+none_removable store t plain keeps (e ∷ es) placed =
+    let rest = none_removable store t plain keeps es placed.1 in
+    let stays = (plain e.0 e.1 placed.0.stands).stays in
+    let left = filter (λ (x : ℕ × Fileset). not x.1.gone) es in
+    elim (not e.1.gone) as (λ b. find (is_picked keeps) (list_map (λ (x : ℕ × Fileset). checkpoint_on store t x.0 x.1) (cond b (e ∷ left) left)) ≡ None) [
+      | true ↦ ap (λ b. cond (b && (if keeps then keeps_files e.1.kind else not (keeps_files e.1.kind))) (Some (checkpoint_on store t e.0 e.1)) (find (is_picked keeps) (list_map (λ (x : ℕ × Fileset). checkpoint_on store t x.0 x.1) left))) stays ∙ rest
+      | false ↦ rest
+    ]
 
-pub pick-none : (store : Store) (mounts : Mounts) (t : Table) → IsPlain t → pick (world_on store mounts t) ≡ None
-pick-none store mounts t plain =
-    let each = none_of_live t plain (live_filesets t) (each_stands t) in
-    (λ i. option_or (option_map (λ (checkpoint : Checkpoint). checkpoint.id) (none_removable store t true (live_filesets t) each i)) (option_map (λ (checkpoint : Checkpoint). checkpoint.id) (none_removable store t false (live_filesets t) each i)))
+pick-none : (store : Store) (mounts : Mounts) (t : Table) → IsTable t → IsPlain t → pick (world_on store mounts t) ≡ None
+pick-none store mounts t lawful plain =
+    let keeping = none_removable store t plain true (map.entries t.filesets) (all_placed t lawful) in
+    let nodata = none_removable store t plain false (map.entries t.filesets) (all_placed t lawful) in
+    (λ i. option_or (option_map (λ (checkpoint : Checkpoint). checkpoint.id) (keeping i)) (option_map (λ (checkpoint : Checkpoint). checkpoint.id) (nodata i)))
 
 given-none : (most : ℕ) (effect : World → World) (new : ℕ) (w : World) → pick w ≡ None → given_up most effect new w ≡ 0
 given-none zero effect new w none = refl
@@ -92,7 +56,7 @@ abbrev told_of : Reply → ℕ → World → Outcome
 told_of reply given next = record { reply = reply; given = given; next = next }
 
 -- with none to give up, a call fits or doesn't
-pub room-plain : (w : World) (effect : World → World) (new : ℕ) (reply : Reply) → pick w ≡ None
+room-plain : (w : World) (effect : World → World) (new : ℕ) (reply : Reply) → pick w ≡ None
     → with_room w effect new reply ≡ (if fits w (effect w) new then answered_with reply (effect w) else answered_with (no_space w (effect w) new) w)
 room-plain w effect new reply none =
     ap (λ given. let left = without_picks given w in
@@ -115,16 +79,16 @@ grown before after records limit below grows full = elim grows.by [
   | inr more ↦ omega (arith, more)
 ]
 
--- where no checkpoint is gone
-module _ (store : Store) (mounts : Mounts) (t : Table) (ours : IsOurs t) (none : NoneGone t) (next : World) (new records : ℕ) (grows : Grows (record_count t) (records_in next) records) where
+-- where nothing is left to remove or to strip
+module _ (store : Store) (mounts : Mounts) (t : Table) (ours : IsOurs t) (drained : IsDrained t) (next : World) (new records : ℕ) (grows : Grows (record_count t) (records_in next) records) where
   abbrev here : World
   here = world_on store mounts t
 
   held-here : held here ≡ extent_count t
-  held-here = held-is store mounts t ours.lawful ours.sound ours.plain none
+  held-here = held-is store mounts t ours.lawful ours.sound drained.none drained.stripped
 
   records-here : records_in here ≡ record_count t
-  records-here = records-is store mounts t ours.lawful ours.sound none
+  records-here = records-is store mounts t ours.lawful ours.sound drained.none
 
   fit-is : fits here next new ≡ has_room t new records
   fit-is = λ i. nat_le (held-here i + new) t.blocks && fits_records (record_count t) (records_in next) records t.records ours.sized.fits grows i
@@ -147,7 +111,7 @@ module _ (store : Store) (mounts : Mounts) (t : Table) (ours : IsOurs t) (none :
   pub no_room-is : (effect : World → World) (reply : Reply) → effect here ≡ next → has_room t new records ≡ false
       → with_room here effect new reply ≡ answered_with (lack_of_room t new records) here
   no_room-is effect reply leads full =
-      room-plain here effect new reply (pick-none store mounts t ours.plain)
+      room-plain here effect new reply (pick-none store mounts t ours.lawful ours.plain)
       ∙ ap (λ n. if fits here n new then answered_with reply n else answered_with (no_space here n new) here) leads
       ∙ ap (λ b. if b then answered_with reply next else answered_with (no_space here next new) here) (fit-is ∙ full)
       ∙ ap (λ r. answered_with r here) (space-is full)
@@ -159,7 +123,7 @@ module _ (store : Store) (mounts : Mounts) (t : Table) (ours : IsOurs t) (next :
 
   fits-there : fits now next new ≡ true
   fits-there =
-      let most = held-within store mounts t ours.lawful ours.sound ours.plain in
+      let most = held-within store mounts t ours.lawful ours.sound in
       let blocks : held now + new ≤ t.blocks = omega (arith, most, fit) in
       let one : nat_le (held now + new) t.blocks ≡ true = grind (arith, nat_tests) in
       let two : nat_le (records_in next) t.records ≡ true = grind (arith, nat_tests) in
@@ -167,7 +131,7 @@ module _ (store : Store) (mounts : Mounts) (t : Table) (ours : IsOurs t) (next :
 
   pub room-is : (effect : World → World) (reply : Reply) → effect now ≡ next → with_room now effect new reply ≡ answered_with reply next
   room-is effect reply leads =
-      room-plain now effect new reply (pick-none store mounts t ours.plain)
+      room-plain now effect new reply (pick-none store mounts t ours.lawful ours.plain)
       ∙ ap (λ n. if fits now n new then answered_with reply n else answered_with (no_space now n new) now) leads
       ∙ ap (λ b. if b then answered_with reply next else answered_with (no_space now next new) now) fits-there
 
