@@ -1,11 +1,11 @@
 -- Reads of data blocks, one after the other, and the bytes of a file that they give.
-use Rattle.std.proofs.Common.{◌≡◌, ℕ, zero, suc, ◌+◌, ◌-◌, ◌/◌, ◌%◌, ◌<◌, ◌≤◌, ◌++◌, replicate, slice_index, add-zero, Option, Some, None, List, ◌∷◌, length, get_or, take, drop, drop-cons, map as list_map, ◌⊎◌, inl, inr, ⊎_elim, refl, sym, ap, ◌∙◌, arith}
+use Rattle.std.proofs.Common.{◌≡◌, ℕ, zero, suc, ◌+◌, ◌-◌, ◌/◌, ◌%◌, ◌<◌, ◌≤◌, ◌++◌, replicate, slice_index, add-zero, Option, Some, None, List, ◌∷◌, length, get_or, take, drop, drop-cons, map as list_map, ◌⊎◌, inl, inr, refl, sym, ap, ◌∙◌, arith}
 use Rattle.std.specs.List.{range_with_len}
 use Rattle.std.specs.Option.{option_and_then}
 use Rattle.std.specs.FinMap as map
 use Rattle.std.proofs.lemmas.List.{get_or_past, get_or-replicate, length-replicate}
 use Rattle.std.proofs.lemmas.Bool.{cases_lt}
-use Rattle.ck_disk.specs.Disk.{Image, Meaning, Lawful, Step, Within}
+use Rattle.ck_disk.specs.Disk.{Image}
 use Rattle.ck_model.specs.declared.key.Key.{Key}
 use Rattle.ck_model.specs.declared.key.Key.TheVariants.{Block}
 use Rattle.ck_model.specs.declared.held.Held.{Held}
@@ -17,11 +17,9 @@ use Rattle.ck_model.specs.Values.{Store, Values, cells_on}
 use Rattle.ck_model.specs.Rules.{block_in}
 use Rattle.ck_data.specs.Device.{store_on}
 use Rattle.ck_data.specs.Reads.{bytes_of, part_of, IsFilled}
-use Rattle.ck_disk.specs.Runs.{OnlyReads}
 use Rattle.ck_model.specs.Cells.{Content}
 use Rattle.ck_model.specs.declared.cell.Cell.{Cell}
 use Rattle.std.specs.Option.{option_map}
-use Rattle.ck_disk.proofs.RunLaws.{step_after}
 use Rattle.ck_model.specs.Values.{cell_on}
 use Rattle.ck_model.proofs.ValueLaws.{get-cells_on}
 

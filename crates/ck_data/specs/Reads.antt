@@ -2,7 +2,7 @@
 use Rattle.std.specs.Prelude.{◌≡◌, ⊤, ℕ, List, [], Option, slice_index, map as list_map}
 use Rattle.std.specs.List.{range_with_len}
 use Rattle.std.specs.Option.{option_map_or}
-use Rattle.ck_disk.specs.Disk.{Meaning, Step, Within, Rose, KeepsClean}
+use Rattle.ck_disk.specs.Disk.{Meaning, Rose}
 use Rattle.ck_data.specs.declared.fault.Fault.{Fault}
 use Rattle.ck_data.specs.declared.fault.Fault.TheVariants.{ReadFault, WriteFault, NoMemory}
 use Rattle.ck_model.specs.Values.{Store}

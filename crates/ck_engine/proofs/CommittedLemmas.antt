@@ -2,7 +2,7 @@
 use Rattle.std.proofs.Common.{◌≡◌, inl, inr, ⊎_elim, ℕ, ◌*◌, Bool, true, false, ◌||◌, IsTrue, refl, sym, ap, subst, ◌∙◌, arith}
 use Rattle.std.specs.FinMap as map
 use Rattle.std.specs.FinSet as set
-use Rattle.ck_disk.specs.Disk.{Image, Meaning, Lawful, Step, LeavesOnly, IsSynced}
+use Rattle.ck_disk.specs.Disk.{Image, Meaning, Lawful, LeavesOnly, IsSynced}
 use Rattle.ck_log.specs.Layout.{Layout, table_blocks, base_of}
 use Rattle.ck_log.specs.Images.{table_on, Settled, CommitLeaves}
 use Rattle.ck_alloc.specs.Blocks.{Allocation, IsPartition}

@@ -1,11 +1,11 @@
 -- A volume as it is made.
-use Rattle.std.proofs.Common.{◌≡◌, ℕ, ◌&&◌, ◌||◌, ◌≤◌, false, not, is_some, IsTrue, Option, None, Some, [], refl, sym, ap, subst, ◌∙◌}
+use Rattle.std.proofs.Common.{◌≡◌, ℕ, ◌&&◌, ◌||◌, ◌≤◌, false, not, is_some, IsTrue, Option, Some, refl, sym, ap, subst, ◌∙◌}
 use mathlib.Core.Bool.{false≢true}
 use Rattle.std.specs.Option.{option_map_or}
 use Rattle.std.specs.Ordering.{nat_cmp}
 use Rattle.std.specs.FinMap as map
 use Rattle.std.specs.FinSet as set
-use Rattle.ck_disk.specs.Disk.{Image, Meaning, Lawful, IsSynced, LeavesOnly}
+use Rattle.ck_disk.specs.Disk.{Image, Meaning, Lawful, IsSynced}
 use Rattle.ck_log.specs.Layout.{Layout, table_blocks, base_of, size_of}
 use Rattle.ck_log.specs.Header.{Opens as OpensAt}
 use Rattle.ck_log.specs.FirstTable.{first_table, new_layout}
@@ -28,7 +28,7 @@ use Rattle.ck_engine.specs.Formatted.{new_world, IsFormatted}
 use Rattle.ck_files.specs.Plain.{IsOurs, IsPlain}
 use Rattle.ck_engine.specs.Safe.{HoldsTable}
 use Rattle.ck_engine.specs.declared.engine.Engine.{Engine}
-use Rattle.ck_engine.specs.Engine.{table_of, mounts_of, blocks_of, layout_of, KeepsWorld}
+use Rattle.ck_engine.specs.Engine.{table_of, mounts_of, blocks_of, layout_of}
 use Rattle.ck_disk.specs.Runs.{Runs}
 use Rattle.ck_engine.proofs.SafeLemmas.{written-built, written-undamaged, written-table}
 use Rattle.ck_engine.proofs.OpenLemmas.{synced-safe}
@@ -47,8 +47,8 @@ new_drained : (blocks records : ℕ) (t : Table) → t ≡ new_table blocks reco
 new_drained blocks records t is = record {
   none = λ id fileset has. absurd (none_stands blocks records t is id fileset has);
   stripped = zero_where_none t (λ fs key.
-  let none = ap (λ (x : Table). map.get x.filesets fs) is ∙ map.get-empty nat_cmp fs in
-  ap (λ (o : Option Fileset). (option_map_or (λ (f : Fileset). not f.gone) o false && not (keeps_data t fs)) && is_extent (column t key fs)) none);
+      let none = ap (λ (x : Table). map.get x.filesets fs) is ∙ map.get-empty nat_cmp fs in
+      ap (λ (o : Option Fileset). (option_map_or (λ (f : Fileset). not f.gone) o false && not (keeps_data t fs)) && is_extent (column t key fs)) none);
 }
 
 module _ {D : Type 0} (blocks records : ℕ) (old new : Meaning) (volume : Engine D) (new_law : Lawful new) (runs : Runs old new)

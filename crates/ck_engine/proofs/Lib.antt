@@ -8,4 +8,3 @@ pub mod KeptLaws
 pub mod RecoveryLaws
 pub mod FormatLemmas
 pub mod WholeLaws
-pub mod LeavesLaws

@@ -1,5 +1,5 @@
 -- A volume as it is opened.
-use Rattle.std.proofs.Common.{◌≡◌, inr, ⊎_elim, ℕ, zero, suc, ◌%◌, ◌||◌, ◌<◌, ◌≤◌, Bool, true, false, not, IsTrue, None, List, [], ◌∷◌, length, nat_eq, slice_index_or, Result, Ok, Err, IfOk, IfErr, if◌then◌else◌, refl, sym, ap, subst, ◌∙◌, arith}
+use Rattle.std.proofs.Common.{◌≡◌, ℕ, zero, suc, ◌%◌, ◌||◌, ◌<◌, ◌≤◌, Bool, true, false, IsTrue, List, [], ◌∷◌, length, nat_eq, slice_index_or, Result, Ok, Err, IfOk, IfErr, if◌then◌else◌, refl, sym, ap, subst, ◌∙◌, arith}
 use Rattle.std.specs.List.{list_any}
 use Rattle.std.proofs.lemmas.Bool.Decides.{nat_tests}
 use Rattle.ck_alloc.specs.Blocks.{Allocation, IsPartition, used_alone}
@@ -8,10 +8,9 @@ use Rattle.ck_model.specs.TableWorld.{extents_of}
 use Rattle.ck_model.specs.Table.{column}
 use Rattle.ck_files.proofs.AllocatedLaws.{contains-listed}
 use Rattle.ck_files.proofs.NamedLaws.{is-named, extent_is}
-use mathlib.Core.Bool.{false≢true}
 use Rattle.std.specs.FinMap as map
 use Rattle.std.specs.FinSet as set
-use Rattle.ck_disk.specs.Disk.{Image, Meaning, Lawful, IsClean, IsSynced, LeavesOnly, Rose}
+use Rattle.ck_disk.specs.Disk.{Meaning, Lawful, IsClean, IsSynced, LeavesOnly, Rose}
 use Rattle.ck_log.specs.Layout.{Layout, base_of, size_of}
 use Rattle.ck_log.specs.Header.{Recovered, Opens as OpensAt}
 use Rattle.ck_log.specs.Images.{recovered_region, area_of, Settled}
@@ -37,7 +36,7 @@ use Rattle.ck_engine.specs.Safe.{HoldsTable, IsSafe}
 use Rattle.ck_engine.specs.declared.engine.Engine.{Engine}
 use Rattle.ck_engine.specs.Engine.{table_of, mounts_of, blocks_of, layout_of, world_of}
 use Rattle.ck_engine.proofs.SafeLemmas.{holds-recovers}
-use Rattle.ck_disk.proofs.MomentLaws.{leaves_step, leaves_start, leaves_now}
+use Rattle.ck_disk.proofs.MomentLaws.{leaves_step, leaves_start}
 use Rattle.ck_disk.proofs.RunLaws.{leaves_on}
 
 -- where no write stands on the device, what its reads have each image has

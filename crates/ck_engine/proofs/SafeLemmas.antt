@@ -1,6 +1,5 @@
 -- A safe table: every image that a crash may leave opens to the world that it stands for.
-use Rattle.std.proofs.Common.{◌≡◌, ◌≢◌, ◌⊎◌, inl, inr, ⊎_elim, ℕ, ◌+◌, ◌-◌, ◌*◌, ◌≤◌, ◌||◌, Bool, true, false, not, None, IsTrue, List, [], set, length, get_or, if◌then◌else◌, refl, sym, ap, subst, ◌∙◌, arith, get_or-set_other, length-set}
-use mathlib.Core.Bool.{false≢true}
+use Rattle.std.proofs.Common.{◌≡◌, ◌⊎◌, inl, inr, ⊎_elim, ℕ, ◌+◌, ◌*◌, ◌≤◌, Bool, true, false, None, IsTrue, List, [], set, get_or, if◌then◌else◌, refl, sym, ap, subst, ◌∙◌, arith}
 use Rattle.std.specs.FinMap as map
 use Rattle.ck_disk.specs.Disk.{Image, Meaning, Agrees, Lawful, LeavesOnly, IsSynced}
 use Rattle.ck_log.specs.Layout.{Layout, OutsideGateAndAreas, table_blocks, base_of}

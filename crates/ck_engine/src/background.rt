@@ -51,12 +51,7 @@ impl<D: Disk> Engine<D> {
         ensures left { result ≡ true → unstripped_count (table_of self.new) + 1 ≡ unstripped_count (table_of self.old) }
         ensures over { result ≡ false → IsOver (table_of self.new) id }
     {
-        strip_of(
-            &mut self.slots,
-            &mut self.blocks,
-            &mut self.stripped,
-            id,
-        )
+        strip_of(&mut self.slots, &mut self.blocks, &mut self.stripped, id)
     }
 
     /// The id of the checkpoint with this name.

@@ -6,6 +6,8 @@ mod crashes;
 #[cfg(test)]
 mod faults;
 #[cfg(test)]
+mod removals;
+#[cfg(test)]
 mod runs;
 #[cfg(test)]
 mod streams;

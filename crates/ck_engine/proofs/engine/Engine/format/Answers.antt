@@ -1,4 +1,3 @@
-use Rattle.std.proofs.Common.{refl}
 use Rattle.ck_log.specs.FirstTable.{new_layout, FormatLeaves}
 use Rattle.ck_slots.specs.Slots.{table_in}
 use Rattle.ck_files.specs.Plain.{IsOurs}

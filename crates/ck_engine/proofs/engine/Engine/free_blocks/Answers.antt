@@ -1,4 +1,3 @@
-use Rattle.std.proofs.Common.{refl}
 use Rattle.ck_engine.proofs.AttemptLemmas.{quiet-attempt, settled_free, on_ok_map}
 use Rattle.ck_engine.specs.Engine.{table_of, blocks_of}
 use Rattle.ck_engine.proofs.engine.Engine.free_blocks.Goals as goal

@@ -1,4 +1,4 @@
-use Rattle.std.proofs.Common.{ℕ, refl, sym, subst}
+use Rattle.std.proofs.Common.{ℕ, sym, subst}
 use Rattle.ck_files.specs.Plain.{IsOurs}
 use Rattle.ck_disk.specs.Runs.{OnlyReads}
 use Rattle.ck_slots.specs.Slots.{table_in}
