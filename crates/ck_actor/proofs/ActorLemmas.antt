@@ -33,10 +33,11 @@ use Rattle.ck_volume.specs.Told.{AreAnswered}
 use Rattle.ck_volume.specs.Turn.{OnStrip, UnlessStrip}
 use Rattle.ck_volume.proofs.FitsLaws.{had_below, turns_on_way}
 use Rattle.ck_actor.specs.declared.place.Place.{Place}
-use Rattle.ck_actor.specs.Actor.{entered_line, entered_numbers, IsOnWay, OnWay}
-use Rattle.ck_actor.specs.Place.{IsFound}
+use Rattle.ck_actor.specs.declared.actor.Actor.{Actor}
+use Rattle.ck_actor.specs.Actor.{entered_line, entered_numbers, HasBegun, IsOnWay, IsThrough, OnWay, Stands}
+use Rattle.ck_actor.specs.Place.{answered_count, IsFound}
 use Rattle.ck_actor.specs.Counts.{AsFrozen, FrozenMaps, Takes, frozen_on, frozen_turns}
-use Rattle.ck_actor.proofs.PlaceLemmas.{all_before, calls_as_many, left_at, own_at, own_call, own_line, own_number}
+use Rattle.ck_actor.proofs.PlaceLemmas.{all_before, calls_as_many, left_at, none_left, own_at, own_call, own_line, own_number}
 
 pub numbers_of-more : (history : List Entry) (entry : Entry) (actor : ℕ) → entry.actor ≡ actor → numbers_of (history ++ entry ∷ []) actor ≡ numbers_of history actor ++ entry.seq ∷ []
 numbers_of-more history entry actor own =
@@ -119,69 +120,70 @@ module _ (origin : Meaning) (told : List Call) (lines : List Line) (history : Li
   there = slice_get_read lines (length lines) place.line line refl within is
 
   -- a call on its way is that of this line
+  module _ (progress : Progress) where
+    begun_line : HasBegun origin told lines history place progress → IsBegunFor line.call progress
+    begun_line way = subst (λ (l : Line). IsBegunFor l.call progress) (some_line way.line line (sym way.line_is ∙ there)) way.begun
+
+    fits_line : line.actor ≡ place.actor → HasBegun origin told lines history place progress → FitsHistory origin told history line.actor line.call progress
+    fits_line own way =
+        subst (λ n. FitsHistory origin told history n line.call progress) (sym own)
+        (subst (λ (l : Line). FitsHistory origin told history place.actor l.call progress) (some_line way.line line (sym way.line_is ∙ there)) way.fits)
+
+    way_line : line.actor ≡ place.actor → IsBegunFor line.call progress → FitsHistory origin told history line.actor line.call progress → HasBegun origin told lines history place progress
+    way_line own begun fits = record {
+      line = line;
+      line_is = there;
+      own = own;
+      begun = begun;
+      fits = subst (λ n. FitsHistory origin told history n line.call progress) own fits;
+    }
+
   pub begun_here : (progress : Progress) → IsOnWay origin told lines history place progress → IsBegunFor line.call progress
   begun_here Fresh on_way = tt
-  begun_here (Read read) on_way = subst (λ (l : Line). IsBegunFor l.call (Read read)) (some_line on_way.line line (sym on_way.line_is ∙ there)) on_way.begun
-  begun_here (Strip id) on_way = subst (λ (l : Line). IsBegunFor l.call (Strip id)) (some_line on_way.line line (sym on_way.line_is ∙ there)) on_way.begun
+  begun_here (Read read) on_way = begun_line (Read read) on_way
+  begun_here (Strip id) on_way = begun_line (Strip id) on_way
 
   pub fits_here : (progress : Progress) → line.actor ≡ place.actor → IsOnWay origin told lines history place progress → FitsHistory origin told history line.actor line.call progress
   fits_here Fresh own on_way = tt
-  fits_here (Read read) own on_way =
-      subst (λ n. FitsHistory origin told history n line.call (Read read)) (sym own)
-      (subst (λ (l : Line). FitsHistory origin told history place.actor l.call (Read read)) (some_line on_way.line line (sym on_way.line_is ∙ there)) on_way.fits)
-  fits_here (Strip id) own on_way =
-      subst (λ n. FitsHistory origin told history n line.call (Strip id)) (sym own)
-      (subst (λ (l : Line). FitsHistory origin told history place.actor l.call (Strip id)) (some_line on_way.line line (sym on_way.line_is ∙ there)) on_way.fits)
+  fits_here (Read read) own on_way = fits_line (Read read) own on_way
+  fits_here (Strip id) own on_way = fits_line (Strip id) own on_way
 
   pub on_way_here : (progress : Progress) → line.actor ≡ place.actor → IsBegunFor line.call progress → FitsHistory origin told history line.actor line.call progress → IsOnWay origin told lines history place progress
   on_way_here Fresh own begun fits = tt
-  on_way_here (Read read) own begun fits = record {
-    line = line;
-    line_is = there;
-    own = own;
-    begun = begun;
-    fits = subst (λ n. FitsHistory origin told history n line.call (Read read)) own fits;
-  }
-  on_way_here (Strip id) own begun fits = record {
-    line = line;
-    line_is = there;
-    own = own;
-    begun = begun;
-    fits = subst (λ n. FitsHistory origin told history n line.call (Strip id)) own fits;
-  }
+  on_way_here (Read read) own begun fits = way_line (Read read) own begun fits
+  on_way_here (Strip id) own begun fits = way_line (Strip id) own begun fits
 
 -- ---- the place of a call that is on its way
 
 none_some : (o : Option Line) (x : Line) → o ≡ None → o ≡ Some x → ⊥
 none_some o x none some = cc
 
-pub found_here : (origin : Meaning) (told : List Call) (lines : List Line) (history : List Entry) (place : Place) (progress : Progress) → IsOnWay origin told lines history place progress → OnWay progress (IsFound lines place)
-found_here origin told lines history place Fresh on_way = tt
-found_here origin told lines history place (Read read) on_way = record {
-  within = elim (slice_get_cases lines place.line).1 [
-    | inl there ↦ let within = there.1 in omega (arith, within)
-    | inr past ↦ absurd (none_some (slice_get lines place.line) on_way.line (slice_get_past lines place.line past.0) on_way.line_is)
-  ];
-  own = subst (λ found. IfSome found (λ line. line.actor ≡ place.actor)) (sym on_way.line_is) on_way.own;
-}
-found_here origin told lines history place (Strip id) on_way = record {
-  within = elim (slice_get_cases lines place.line).1 [
-    | inl there ↦ let within = there.1 in omega (arith, within)
-    | inr past ↦ absurd (none_some (slice_get lines place.line) on_way.line (slice_get_past lines place.line past.0) on_way.line_is)
-  ];
-  own = subst (λ found. IfSome found (λ line. line.actor ≡ place.actor)) (sym on_way.line_is) on_way.own;
-}
+module _ (origin : Meaning) (told : List Call) (lines : List Line) (history : List Entry) (place : Place) where
+  not_past : (progress : Progress) → HasBegun origin told lines history place progress → length lines ≤ place.line → ⊥
+  not_past progress way past = none_some (slice_get lines place.line) way.line (slice_get_past lines place.line past) way.line_is
 
--- at the end none is on its way
-pub at_end_rests : (origin : Meaning) (told : List Call) (lines : List Line) (history : List Entry) (place : Place) (progress : Progress) (X : Type 0) → length lines ≤ place.line → IsOnWay origin told lines history place progress → OnWay progress X
-at_end_rests origin told lines history place Fresh X past on_way = tt
-at_end_rests origin told lines history place (Read read) X past on_way = absurd (none_some (slice_get lines place.line) on_way.line (slice_get_past lines place.line past) on_way.line_is)
-at_end_rests origin told lines history place (Strip id) X past on_way = absurd (none_some (slice_get lines place.line) on_way.line (slice_get_past lines place.line past) on_way.line_is)
+  found_line : (progress : Progress) → HasBegun origin told lines history place progress → IsFound lines place
+  found_line progress way = record {
+    within = elim (slice_get_cases lines place.line).1 [
+      | inl there ↦ let within = there.1 in omega (arith, within)
+      | inr past ↦ absurd (not_past progress way past.0)
+    ];
+    own = subst (λ found. IfSome found (λ line. line.actor ≡ place.actor)) (sym way.line_is) way.own;
+  }
 
-pub is_fresh : (origin : Meaning) (told : List Call) (lines : List Line) (history : List Entry) (place : Place) (progress : Progress) → length lines ≤ place.line → IsOnWay origin told lines history place progress → progress ≡ Fresh
-is_fresh origin told lines history place Fresh past on_way = refl
-is_fresh origin told lines history place (Read read) past on_way = absurd (none_some (slice_get lines place.line) on_way.line (slice_get_past lines place.line past) on_way.line_is)
-is_fresh origin told lines history place (Strip id) past on_way = absurd (none_some (slice_get lines place.line) on_way.line (slice_get_past lines place.line past) on_way.line_is)
+  pub found_here : (progress : Progress) → IsOnWay origin told lines history place progress → OnWay progress (IsFound lines place)
+  found_here Fresh on_way = tt
+  found_here (Read read) on_way = found_line (Read read) on_way
+  found_here (Strip id) on_way = found_line (Strip id) on_way
+
+  -- at the end none is on its way
+  pub is_fresh : (progress : Progress) → length lines ≤ place.line → IsOnWay origin told lines history place progress → progress ≡ Fresh
+  is_fresh Fresh past on_way = refl
+  is_fresh (Read read) past on_way = absurd (not_past (Read read) on_way past)
+  is_fresh (Strip id) past on_way = absurd (not_past (Strip id) on_way past)
+
+  pub at_end_rests : (progress : Progress) (X : Type 0) → length lines ≤ place.line → IsOnWay origin told lines history place progress → OnWay progress X
+  at_end_rests progress X past on_way = subst (λ p. OnWay p X) (sym (is_fresh progress past on_way)) tt
 
 -- a call that is on its way keeps the place, so what has entries stays
 pub entered_still : (lines : List Line) (place next : Place) (progress : Progress) → OnWay progress (next ≡ place) → numbers_in (take next.line lines) place.actor ≡ numbers_in (take place.line lines) place.actor → next.actor ≡ place.actor
@@ -189,6 +191,9 @@ pub entered_still : (lines : List Line) (place next : Place) (progress : Progres
 entered_still lines place next Fresh same between actor_is = ap (λ n. numbers_in (take next.line lines) n) actor_is ∙ between
 entered_still lines place next (Read read) same between actor_is = ap (λ (p : Place). entered_numbers lines p (Read read)) same
 entered_still lines place next (Strip id) same between actor_is = ap (λ (p : Place). entered_numbers lines p (Strip id)) same
+
+pub through_still : (lines : List Line) (place next : Place) → numbers_in (take next.line lines) place.actor ≡ numbers_in (take place.line lines) place.actor → next.actor ≡ place.actor → answered_count lines next ≡ answered_count lines place
+through_still lines place next between actor_is = ap (λ n. length (numbers_in (take next.line lines) n)) actor_is ∙ ap (λ (numbers : List ℕ). length numbers) between
 
 pub entered_behind : (place : Place) (p : Progress) → place.line ≤ entered_line place p
 entered_behind place Fresh = omega arith
@@ -204,6 +209,19 @@ pub on_way_still : (origin : Meaning) (told : List Call) (lines : List Line) (hi
 on_way_still origin told lines history place next Fresh same on_way = tt
 on_way_still origin told lines history place next (Read read) same on_way = subst (λ (p : Place). IsOnWay origin told lines history p (Read read)) (sym same) on_way
 on_way_still origin told lines history place next (Strip id) same on_way = subst (λ (p : Place). IsOnWay origin told lines history p (Strip id)) (sym same) on_way
+
+-- ---- an actor whose calls are all through
+
+pub through_there : (origin : Meaning) (told : List Call) (lines : List Line) (history : List Entry) (actor : Actor) → Stands origin told lines history actor → length lines ≤ actor.place.line → IsThrough lines history actor
+through_there origin told lines history actor stands past = record {
+  numbers = stands.numbers ∙ all_entered lines actor.place actor.progress past;
+  at_rest = is_fresh origin told lines history actor.place actor.progress past stands.on_way;
+}
+
+pub through_end : (origin : Meaning) (told : List Call) (lines : List Line) (history : List Entry) (actor : Actor) → Stands origin told lines history actor → IsFound lines actor.place → IsThrough lines history actor → length lines ≤ actor.place.line
+through_end origin told lines history actor stands found all =
+    let numbers : numbers_of history actor.place.actor ≡ numbers_in (take actor.place.line lines) actor.place.actor = stands.numbers ∙ ap (λ (p : Progress). entered_numbers lines actor.place p) all.at_rest in
+    none_left lines actor.place.line actor.place.actor found.own (sym numbers ∙ all.numbers)
 
 -- ---- the turns of a read that is on its way
 

@@ -43,15 +43,6 @@ pub take_more : (texts : Texts) (calls : CallsBy) (frozen : FrozenMaps) (counts 
 take_more texts calls frozen counts past [] entry all here = (here, tt)
 take_more texts calls frozen counts past (first ∷ history) entry all here = (all.0, take_more texts calls frozen counts (past_after texts calls past first) history entry all.1 here)
 
--- other counts that are the same for the calls of these entries
-pub take_same : (texts : Texts) (calls : CallsBy) (frozen : FrozenMaps) (counts others : TurnCounts) (past : Past) (history : List Entry) →
-    AllByRecursion (λ entry. counts entry.actor entry.seq ≡ others entry.actor entry.seq) history → TakeTurns texts calls frozen counts past history → TakeTurns texts calls frozen others past history
-take_same texts calls frozen counts others past [] same all = tt
-take_same texts calls frozen counts others past (entry ∷ entries) same all = (
-  weaker (calls entry.actor entry.seq) _ _ (λ call. subst (Takes (frozen_turns frozen past.world entry.actor call) call entry.reply) same.0) all.0,
-  take_same texts calls frozen counts others (past_after texts calls past entry) entries same.1 all.1,
-)
-
 -- ---- as a history goes on, more maps are frozen
 
 abbrev pub GoesOn : FrozenMaps → FrozenMaps → Type 0

@@ -187,7 +187,7 @@ begun_answers call = record {
   none = tt;
   line = λ place. refl;
   had = λ n is. is;
-  now_is = λ n is. elim (answered_when call) [ | inl last ↦ last (n + 1) | inr first ↦ let one = first (n + 1) in omega (arith, one, is) ];
+  now_is = λ n is. elim (answered_when call) [ inl last ↦ last (n + 1) | inr first ↦ let one = first (n + 1) in omega (arith, one, is) ];
 }
 
 read_answers : (call : Call) (read : ReadProgress) → IsOfCall call read → Answers call (Read read)
@@ -270,4 +270,4 @@ module _ {D : Type 0} {g : Ghosts D} (before after : Volume D g) (actor seq at :
 
   pub did_fewer : (was now : Progress) → Did (TakesOn call was (table_of before) now (table_of after)) (Enters call (newest (history_of after)).reply was (table_of before) now (table_of after))
       → OnWay now (turns_left now (table_of after) < turns_left was (table_of before))
-  did_fewer was now did = elim did [ | inl it ↦ it.1.fewer | inr it ↦ it.1.fewer ]
+  did_fewer was now did = elim did [ inl it ↦ it.1.fewer | inr it ↦ it.1.fewer ]

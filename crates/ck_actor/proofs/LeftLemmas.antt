@@ -64,7 +64,7 @@ module _ (standing : Standing) (line : Line) where
 
   ahead_fresh : line.seq ≡ standing.through + 1 → standing.had ≡ 0 → ahead_at standing line ≡ true
   ahead_fresh is none =
-      let one : answering_turn line.call 1 ≡ 1 = elim (answered_when line.call) [ | inl last ↦ last 1 | inr first ↦ first 1 ] in
+      let one : answering_turn line.call 1 ≡ 1 = elim (answered_when line.call) [ inl last ↦ last 1 | inr first ↦ first 1 ] in
       let first : 0 + 1 ≡ 1 = omega arith in
       ahead_next is ∙ ap (λ n. nat_lt n (answering_turn line.call (n + 1))) none ∙ ap (λ n. nat_lt 0 (answering_turn line.call n)) first ∙ ap (λ n. nat_lt 0 n) one
 

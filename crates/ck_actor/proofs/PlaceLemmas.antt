@@ -78,15 +78,10 @@ own_number lines at line actor numbered within is own =
     ∙ range_here 1 (length (numbers_in lines actor)) (length numbers) (left_at lines at line actor within is own) in
     omega (arith, some_same line.seq (1 + length numbers) here)
 
--- what is read of a line's actor holds of the line at that place
-pub own_there : (lines : List Line) (at : ℕ) (line : Line) (actor : ℕ) → at < length lines → line ≡ get_or lines at line → line.actor ≡ actor → IfSome (slice_get lines at) (λ line. line.actor ≡ actor)
-own_there lines at line actor within is own =
-    subst (λ found. IfSome found (λ line. line.actor ≡ actor)) (sym (slice_get_read lines (length lines) at line refl within is)) own
-
 pub none_there : (lines : List Line) (at actor : ℕ) → length lines ≤ at → IfSome (slice_get lines at) (λ line. line.actor ≡ actor)
 none_there lines at actor past = subst (λ found. IfSome found (λ line. line.actor ≡ actor)) (sym (slice_get_past lines at past)) tt
 
--- and the other way round
+-- what holds of the line at a place holds of the line that is read there
 pub own_at : (lines : List Line) (at : ℕ) (line : Line) (actor : ℕ) → at < length lines → line ≡ get_or lines at line → IfSome (slice_get lines at) (λ line. line.actor ≡ actor) → nat_eq line.actor actor ≡ true
 own_at lines at line actor within is own =
     let same : line.actor ≡ actor = subst (λ found. IfSome found (λ line. line.actor ≡ actor)) (slice_get_read lines (length lines) at line refl within is) own in

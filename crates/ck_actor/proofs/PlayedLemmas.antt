@@ -25,7 +25,7 @@ use Rattle.ck_volume.specs.Told.{AreAnswered}
 use Rattle.ck_volume.proofs.FitsLaws.{fits_others}
 use Rattle.ck_actor.specs.declared.actor.Actor.{Actor}
 use Rattle.ck_actor.specs.declared.place.Place.{Place}
-use Rattle.ck_actor.specs.Actor.{calls_left, entered_numbers, number_of, HasMoment, IsOnWay, Stands, StandsAt}
+use Rattle.ck_actor.specs.Actor.{calls_left, number_of, HasBegun, HasMoment, IsOnWay, Stands, StandsAt}
 use Rattle.ck_actor.specs.Completed.{IsSound}
 use Rattle.ck_actor.specs.Counts.{TurnCounts, Takes, TakeTurns, frozen_turns}
 use Rattle.ck_actor.specs.Place.{answered_count, call_count}
@@ -174,23 +174,21 @@ left_first (line ∷ lines) n =
     let rest = left_first lines n in
     omega (arith, more, one, rest)
 
+begun_on : (origin : Meaning) (told : List Call) (other : Call) (lines : List Line) (history : List Entry) (entry : Entry) (place : Place) (p : Progress) → entry.actor ≢ place.actor
+    → HasBegun origin told lines history place p → HasBegun origin (told ++ other ∷ []) lines (history ++ entry ∷ []) place p
+begun_on origin told other lines history entry place p apart way = record {
+  line = way.line;
+  line_is = way.line_is;
+  own = way.own;
+  begun = way.begun;
+  fits = fits_others origin told other history entry place.actor way.line.call p apart way.fits;
+}
+
 way_on : (origin : Meaning) (told : List Call) (other : Call) (lines : List Line) (history : List Entry) (entry : Entry) (place : Place) (p : Progress) → entry.actor ≢ place.actor
     → IsOnWay origin told lines history place p → IsOnWay origin (told ++ other ∷ []) lines (history ++ entry ∷ []) place p
 way_on origin told other lines history entry place Fresh apart on_way = tt
-way_on origin told other lines history entry place (Strip id) apart on_way = record {
-  line = on_way.line;
-  line_is = on_way.line_is;
-  own = on_way.own;
-  begun = on_way.begun;
-  fits = fits_others origin told other history entry place.actor on_way.line.call (Strip id) apart on_way.fits;
-}
-way_on origin told other lines history entry place (Read read) apart on_way = record {
-  line = on_way.line;
-  line_is = on_way.line_is;
-  own = on_way.own;
-  begun = on_way.begun;
-  fits = fits_others origin told other history entry place.actor on_way.line.call (Read read) apart on_way.fits;
-}
+way_on origin told other lines history entry place (Read read) apart on_way = begun_on origin told other lines history entry place (Read read) apart on_way
+way_on origin told other lines history entry place (Strip id) apart on_way = begun_on origin told other lines history entry place (Strip id) apart on_way
 
 stands_on : (origin : Meaning) (told : List Call) (other : Call) (lines : List Line) (history : List Entry) (entry : Entry) (actor : Actor) → entry.actor ≢ number_of actor
     → Stands origin told lines history actor → Stands origin (told ++ other ∷ []) lines (history ++ entry ∷ []) actor

@@ -10,7 +10,7 @@ ghost use Rattle.ck_engine.specs.Recovery.{Recovers};
 ghost use Rattle.ck_volume.specs.Told.{AreAnswered};
 ghost use Rattle.ck_volume.specs.TopCuts.{synced_count};
 ghost use Rattle.ck_volume.specs.Volume.{broken_of, committed_of, disk_of, history_of, origin_of, spoilt_of, table_of, told_of, IsBegun};
-ghost use Rattle.ck_actor.specs.declared.actor.Actor.{Actor as ActorOf};
+ghost use Rattle.ck_actor.specs.declared.actor.Actor.{Actor};
 ghost use Rattle.ck_actor.specs.Actor.{HasFewer};
 ghost use Rattle.ck_actor.specs.Counts.{TurnCounts};
 ghost use Rattle.ck_actor.specs.Played.{AreBegun, AreFinished, AreTurned, HasStepped, IsPlaying, IsUnderWay};
@@ -50,7 +50,7 @@ fn take_own<D: Disk, C: Clock>(
     requires built { AllByRecursion (λ line. IsBuilt line.call) script.now.calls }
     ensures stepped { (at : Standings) (known : TurnCounts) → IsUnderWay D.means (origin_of volume.old) (C.means clock.old) script.now.calls volume.old actors.old at known
         → HasStepped D.means (origin_of volume.old) (C.means clock.old) script.now.calls (suc place) at known volume.old volume.new actors.new }
-    ensures fewer { (was moved : ActorOf) → slice_get actors.old place ≡ Some was → slice_get actors.new place ≡ Some moved → HasFewer was (table_of volume.old) moved (table_of volume.new) }
+    ensures fewer { (was moved : Actor) → slice_get actors.old place ≡ Some was → slice_get actors.new place ≡ Some moved → HasFewer was (table_of volume.old) moved (table_of volume.new) }
     ensures clock { C.means clock.new ≡ C.means clock.old }
 {
     actors[place].turn(alloc, volume, clock, script);

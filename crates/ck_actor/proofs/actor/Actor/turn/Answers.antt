@@ -7,8 +7,7 @@ use Rattle.ck_volume.specs.Volume.{history_of, origin_of, room_of, table_of, tol
 use Rattle.ck_actor.specs.Actor.{entered_numbers, turns_left, HasHad, IsOnWay, IsThrough, OnWay, Stands, StandsAt}
 use Rattle.ck_actor.specs.Place.{answered_count, call_count}
 use Rattle.ck_actor.specs.Turned.{answered_by_now, IsTurnFrom}
-use Rattle.ck_actor.proofs.ActorLemmas.{all_entered, entered_still, found_here, is_fresh, on_way_still}
-use Rattle.ck_actor.proofs.PlaceLemmas.{none_left}
+use Rattle.ck_actor.proofs.ActorLemmas.{entered_still, found_here, on_way_still, through_end, through_still, through_there}
 use Rattle.ck_actor.proofs.actor.Actor.turn.Goals as goal
 
 pub seek-requires : goal.seek-requires
@@ -60,7 +59,7 @@ returns-clause-turn g c = λ at stood.
     let seek = c.seek.ensures in
     let through : at.through ≡ answered_count items old.place = subst (λ (lines : List Line). at.through ≡ answered_count lines old.place) (sym c.items-lines.ensures) stood.through in
     let stood_new : StandsAt items new at = record {
-      through = through ∙ sym (ap (λ n. length (numbers_in (take new.place.line items) n)) seek.actor ∙ ap (λ (numbers : List ℕ). length numbers) seek.between);
+      through = through ∙ sym (through_still items old.place new.place seek.between seek.actor);
       had = subst (λ p. HasHad p at.had) (sym seek.progress) stood.had;
     } in
     subst (λ (lines : List Line). IsTurnFrom origin lines old.place.actor at moved before after) c.items-lines.ensures
@@ -75,18 +74,12 @@ pub returns-clause-through : goal.returns-clause-through
 returns-clause-through g c =
     let items = c.items-lines.result.now in
     let volume = c.act.new.volume in
+    let origin = g.D.Disk.means (origin_of volume) in
     let history = history_of volume in
     let actor = c.act.new.self in
-    let place = actor.place in
     let stands = c.act.ensures.stands in (
-      λ through.
-          let past = c.turned.ensures.0 through in
-          subst (λ (lines : List Line). IsThrough lines history actor) c.items-lines.ensures (record {
-            numbers = stands.numbers ∙ all_entered items place actor.progress past;
-            at_rest = is_fresh (g.D.Disk.means (origin_of volume)) (told_of volume) items history place actor.progress past stands.on_way;
-          }),
+      λ through. subst (λ (lines : List Line). IsThrough lines history actor) c.items-lines.ensures (through_there origin (told_of volume) items history actor stands (c.turned.ensures.0 through)),
       λ all.
           let here : IsThrough items history actor = subst (λ (lines : List Line). IsThrough lines history actor) (sym c.items-lines.ensures) all in
-          let numbers : numbers_of history place.actor ≡ numbers_in (take place.line items) place.actor = stands.numbers ∙ ap (λ (p : Progress). entered_numbers items place p) here.at_rest in
-          c.turned.ensures.1 (none_left items place.line place.actor c.act.ensures.found.own (sym numbers ∙ here.numbers)),
+          c.turned.ensures.1 (through_end origin (told_of volume) items history actor stands c.act.ensures.found here),
     )
