@@ -1,15 +1,12 @@
 -- What stands before the first turn, and what follows once all calls are through.
-use Rattle.std.proofs.Common.{◌≡◌, ◌≤◌, ◌<◌, ◌⊎◌, inl, inr, ℕ, zero, suc, ◌+◌, true, false, Some, None, IsTrue, List, [], ◌∷◌, ◌++◌, length, take, drop, nat_eq, nat_lt, if◌then◌else◌, refl, sym, ap, subst, ◌∙◌, arith, length-append}
-use Rattle.std.specs.Prelude.{slice_get}
+use Rattle.std.proofs.Common.{◌≡◌, ◌≤◌, ◌<◌, inl, inr, ℕ, zero, suc, ◌+◌, true, false, Some, None, IsTrue, List, [], ◌∷◌, ◌++◌, length, take, drop, nat_eq, nat_lt, if◌then◌else◌, refl, sym, ap, subst, ◌∙◌, arith, length-append}
 use Rattle.std.specs.List.{cons_option, range_with_len, AllByRecursion}
 use Rattle.std.proofs.lemmas.Bool.Decides.{nat_tests}
 use Rattle.std.proofs.lemmas.List.{append-nil, take_all, take-append-drop}
-use Rattle.std.proofs.lemmas.List.Elements.{filter_map-append}
 use Rattle.std.proofs.lemmas.Option.{slice_get_cases}
 use Rattle.ck_disk.specs.Disk.{Meaning}
 use Rattle.ck_disk.specs.declared.disk.Disk.{Ghosts}
 use Rattle.ck_io.specs.Clock.{ClockMeaning}
-use Rattle.ck_model.specs.declared.call.Call.{Call}
 use Rattle.ck_model.specs.declared.entry.Entry.{Entry}
 use Rattle.ck_model.specs.History.{IsOfScript, call_at, calls_of, numbers_of}
 use Rattle.ck_model.specs.Streams.{Texts}
@@ -22,7 +19,6 @@ use Rattle.ck_volume.specs.Volume.{committed_of, history_of, origin_of, room_of,
 use Rattle.ck_volume.specs.declared.volume.Volume.{Volume}
 use Rattle.ck_actor.specs.declared.actor.Actor.{Actor}
 use Rattle.ck_actor.specs.declared.place.Place.{Place}
-use Rattle.ck_volume.specs.declared.event.Progress.{Progress}
 use Rattle.ck_volume.specs.declared.event.Progress.TheVariants.{Fresh}
 use Rattle.ck_actor.specs.Actor.{entered_line, entered_numbers, HasHad, IsNew, IsOnWay, OnWay}
 use Rattle.ck_actor.specs.Counts.{TurnCounts}

@@ -1,5 +1,5 @@
 -- The calls that are left behind the listed turns, one after another.
-use Rattle.std.proofs.Common.{◌≡◌, ◌≤◌, ◌<◌, ◌⊎◌, inl, inr, ℕ, zero, suc, ◌+◌, Bool, true, false, cond, List, [], ◌∷◌, ◌++◌, filter, map as list_map, length, take, get_or, nat_eq, nat_lt, if◌then◌else◌, refl, sym, ap, subst, ◌∙◌, arith, append_assoc, length-append}
+use Rattle.std.proofs.Common.{◌≡◌, ◌≤◌, ◌<◌, inl, inr, ℕ, ◌+◌, Bool, true, false, cond, List, [], ◌∷◌, ◌++◌, filter, map as list_map, length, take, get_or, nat_eq, nat_lt, if◌then◌else◌, refl, sym, ap, subst, ◌∙◌, arith, append_assoc, length-append}
 use Rattle.std.proofs.lemmas.Bool.Decides.{nat_tests}
 use Rattle.std.proofs.lemmas.List.{append-nil, take_all, take_more, map-append}
 use Rattle.ck_script.specs.declared.line.Line.{Line}
@@ -8,7 +8,7 @@ use Rattle.ck_actor.specs.Completed.{IsSound, IsCompleted}
 use Rattle.ck_actor.specs.Counts.{TurnCounts}
 use Rattle.ck_actor.specs.Place.{call_count}
 use Rattle.ck_actor.specs.Turns.{Standing, at_first, answering_turn, answered_by}
-use Rattle.ck_actor.specs.Walk.{Standings, seq_at, place_of, ahead_at, is_ahead, moved_to, with_count, Agrees, IsWalked}
+use Rattle.ck_actor.specs.Walk.{Standings, seq_at, place_of, ahead_at, is_ahead, moved_to, with_count, IsWalked}
 use Rattle.ck_actor.proofs.PlaceLemmas.{other_line, own_line, own_number}
 use Rattle.ck_actor.proofs.TurnLemmas.{answered_when, same_number, walk_ends}
 

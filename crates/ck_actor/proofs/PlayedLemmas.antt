@@ -1,5 +1,5 @@
 -- What one turn does to what stands while a script is played.
-use Rattle.std.proofs.Common.{◌≡◌, ◌≢◌, ◌≤◌, ◌<◌, ◌⊎◌, inl, inr, ℕ, zero, suc, ◌+◌, ◌-◌, true, false, Option, Some, None, Bool, IsSomeAnd, List, [], ◌∷◌, ◌++◌, map as list_map, length, get_or, set, nat_eq, nat_le, if◌then◌else◌, IsTrue, refl, sym, ap, subst, ◌∙◌, arith}
+use Rattle.std.proofs.Common.{◌≡◌, ◌≢◌, ◌≤◌, ◌<◌, ◌⊎◌, inl, inr, ℕ, zero, suc, ◌+◌, ◌-◌, true, false, Some, None, Bool, IsSomeAnd, List, [], ◌∷◌, ◌++◌, length, get_or, set, nat_eq, nat_le, if◌then◌else◌, IsTrue, refl, sym, ap, subst, ◌∙◌, arith}
 use Rattle.std.specs.Prelude.{slice_get}
 use Rattle.std.specs.List.{cons_option, filter_map, AllByRecursion}
 use Rattle.std.proofs.lemmas.Bool.Decides.{nat_tests}
@@ -28,11 +28,11 @@ use Rattle.ck_actor.specs.declared.place.Place.{Place}
 use Rattle.ck_actor.specs.Actor.{calls_left, number_of, HasBegun, HasMoment, IsOnWay, Stands, StandsAt}
 use Rattle.ck_actor.specs.Completed.{IsSound}
 use Rattle.ck_actor.specs.Counts.{TurnCounts, Takes, TakeTurns, frozen_turns}
-use Rattle.ck_actor.specs.Place.{answered_count, call_count}
+use Rattle.ck_actor.specs.Place.{call_count}
 use Rattle.ck_actor.specs.Played.{all_left, places_of, ArePlayers, AreTaken, HaveMoment, IsNone, IsPlayed, IsPlayer, IsStep}
 use Rattle.ck_actor.specs.Turned.{Answered, AddsEntry, IsAnswered, IsEnded, IsEntered, IsIdle, IsTaken, IsTurnFrom}
 use Rattle.ck_actor.specs.Turns.{Standing, answering_turn, going_on, gone_on}
-use Rattle.ck_actor.specs.Walk.{Standings, seq_at, answered_at, moved_to, with_count, Agrees}
+use Rattle.ck_actor.specs.Walk.{Standings, seq_at, answered_at, moved_to, with_count}
 use Rattle.ck_actor.proofs.ActorLemmas.{lengthen, longer, numbers_of-more}
 use Rattle.ck_actor.proofs.CountLemmas.{take_longer, take_more}
 use Rattle.ck_actor.proofs.LeftLemmas.{each_actor}

@@ -1,13 +1,11 @@
 -- Where an actor stands behind an event of the call of its line.
-use Rattle.std.proofs.Common.{◌≡◌, ◌≤◌, ◌<◌, ◌⊎◌, inl, inr, ℕ, ◌+◌, true, Some, List, [], ◌∷◌, ◌++◌, length, take, get_or, nat_eq, refl, sym, ap, subst, ◌∙◌, arith}
+use Rattle.std.proofs.Common.{◌≡◌, ◌<◌, inl, inr, ℕ, ◌+◌, true, Some, List, [], length, take, get_or, nat_eq, refl, sym, ap, subst, ◌∙◌, arith}
 use Rattle.std.specs.List.{AllByRecursion}
 use Rattle.std.proofs.lemmas.Bool.Decides.{nat_tests}
 use Rattle.ck_disk.specs.Disk.{Meaning}
 use Rattle.ck_disk.specs.declared.disk.Disk.{Ghosts}
 use Rattle.ck_model.specs.declared.entry.Entry.{Entry}
-use Rattle.ck_model.specs.declared.reply.Reply.{Reply}
 use Rattle.ck_model.specs.History.{call_at, numbers_of, state}
-use Rattle.ck_model.specs.Table.{Table}
 use Rattle.ck_laws.specs.Laws.{frozen}
 use Rattle.ck_script.specs.declared.line.Line.{Line}
 use Rattle.ck_script.specs.Numbered.{calls_in, numbers_in, IsNumbered}
@@ -17,9 +15,9 @@ use Rattle.ck_volume.specs.declared.event.Progress.TheVariants.{Fresh, Read, Str
 use Rattle.ck_volume.specs.declared.event.Turn.TheVariants.{Answered}
 use Rattle.ck_volume.specs.declared.volume.Volume.{Volume}
 use Rattle.ck_volume.specs.Event.{newest}
-use Rattle.ck_volume.specs.Progress.{had_of, FitsHistory, IsBegunFor, IsLastOf}
+use Rattle.ck_volume.specs.Progress.{had_of, FitsHistory, IsLastOf}
 use Rattle.ck_volume.specs.Turn.{entries_had, OnEntry, OnStrip}
-use Rattle.ck_volume.specs.Volume.{history_of, origin_of, table_of, told_of, KeepsLog}
+use Rattle.ck_volume.specs.Volume.{history_of, origin_of, table_of, told_of}
 use Rattle.ck_actor.specs.declared.actor.Actor.{Actor}
 use Rattle.ck_actor.specs.declared.place.Place.{Place}
 use Rattle.ck_actor.specs.Actor.{entered_line, entered_numbers, HasHad, IsOnWay, Stands, StandsAt}

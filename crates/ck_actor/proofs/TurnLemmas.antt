@@ -1,13 +1,11 @@
 -- A script's turns, one after another: what they answer, and where the actors stand then.
-use Rattle.std.proofs.Common.{◌≡◌, ◌≤◌, ◌<◌, ◌⊎◌, inl, inr, ℕ, ◌+◌, true, false, cond, Option, None, Some, List, [], ◌∷◌, ◌++◌, filter, map as list_map, nat_eq, nat_lt, if◌then◌else◌, refl, sym, ap, subst, ◌∙◌, arith, append_assoc}
+use Rattle.std.proofs.Common.{◌≡◌, ◌≤◌, ◌<◌, ◌⊎◌, inl, inr, ℕ, ◌+◌, true, false, cond, None, Some, List, [], ◌∷◌, ◌++◌, filter, map as list_map, nat_eq, nat_lt, if◌then◌else◌, refl, sym, ap, subst, ◌∙◌, arith, append_assoc}
 use Rattle.std.specs.Option.{option_map_or}
 use Rattle.std.proofs.lemmas.Bool.Decides.{nat_tests}
 use Rattle.std.proofs.lemmas.List.{append-nil}
 use Rattle.ck_model.specs.declared.call.Call.{Call}
 use Rattle.ck_model.specs.declared.call.Call.TheVariants.{Nodata}
-use Rattle.ck_model.specs.History.{call_at}
 use Rattle.ck_script.specs.declared.line.Line.{Line}
-use Rattle.ck_script.specs.Numbered.{calls_in}
 use Rattle.ck_actor.specs.Counts.{TurnCounts}
 use Rattle.ck_actor.specs.Turns.{Standing, at_first, going_on, gone_on, turned, with_turn, answering_turn, is_left, answered_by}
 use Rattle.ck_actor.specs.Walk.{Standings, seq_at, place_of, next_call, behind, answered_at, answered_now, standing_after, answered_in, left_behind, is_ahead, moved_to, with_count, Agrees, IsWalked}

@@ -15,7 +15,7 @@ use Rattle.ck_volume.specs.declared.volume.Volume.{Volume}
 use Rattle.ck_actor.specs.declared.actor.Actor.{Actor}
 use Rattle.ck_actor.specs.Counts.{TurnCounts}
 use Rattle.ck_actor.specs.Played.{places_of, AreTurned, HasStepped, IsPlayed, IsUnderWay}
-use Rattle.ck_actor.specs.Turned.{Answered, answered_by_now}
+use Rattle.ck_actor.specs.Turned.{answered_by_now}
 use Rattle.ck_actor.specs.Walk.{Standings, IsWalked}
 use Rattle.ck_actor.proofs.EndsLemmas.{none_numbers}
 use Rattle.ck_actor.proofs.PlaceLemmas.{calls_as_many}

@@ -1,5 +1,5 @@
 use Rattle.ck_script.specs.declared.line.Line.{Line}
-use Rattle.std.proofs.Common.{◌≡◌, ◌≤◌, ◌+◌, List, length, refl, sym, ap, subst, ◌∙◌, arith}
+use Rattle.std.proofs.Common.{◌≡◌, ◌≤◌, ◌+◌, List, length, refl, sym, subst, ◌∙◌, arith}
 use Rattle.ck_volume.specs.Volume.{origin_of}
 use Rattle.ck_actor.specs.Played.{AreFinished}
 use Rattle.ck_actor.proofs.EndsLemmas.{finished_from, first_finished}

@@ -1,4 +1,4 @@
-use Rattle.std.proofs.Common.{◌≡◌, ◌<◌, suc, List, length, get_or, ap, sym, subst, ◌∙◌, arith}
+use Rattle.std.proofs.Common.{◌≡◌, ◌<◌, suc, List, length, get_or, sym, subst, ◌∙◌, arith}
 use Rattle.ck_disk.specs.Disk.{Meaning}
 use Rattle.ck_io.specs.Clock.{ClockMeaning}
 use Rattle.ck_volume.specs.Volume.{history_of, origin_of, room_of, table_of, told_of}

@@ -1,7 +1,6 @@
-use Rattle.std.proofs.Common.{◌≡◌, ◌≤◌, ◌<◌, ◌-◌, ◌+◌, ℕ, List, length, take, sym, ap, subst, ◌∙◌}
+use Rattle.std.proofs.Common.{◌≡◌, ◌≤◌, ◌<◌, ◌-◌, ℕ, List, length, sym, ap, subst, ◌∙◌}
 use Rattle.ck_model.specs.History.{numbers_of}
 use Rattle.ck_script.specs.declared.line.Line.{Line}
-use Rattle.ck_script.specs.Numbered.{numbers_in}
 use Rattle.ck_volume.specs.declared.event.Progress.{Progress}
 use Rattle.ck_volume.specs.Volume.{history_of, origin_of, room_of, table_of, told_of}
 use Rattle.ck_actor.specs.Actor.{entered_numbers, turns_left, HasHad, IsOnWay, IsThrough, OnWay, Stands, StandsAt}
