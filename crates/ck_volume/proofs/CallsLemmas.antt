@@ -1,5 +1,5 @@
 -- The calls of a history that has one more entry.
-use Rattle.std.proofs.Common.{◌≡◌, ◌≤◌, ℕ, ◌+◌, Bool, true, false, ◌&&◌, Option, Some, None, List, [], ◌∷◌, ◌++◌, length, nat_eq, if◌then◌else◌, IsTrue, refl, sym, ap, subst, ◌∙◌, arith}
+use Rattle.std.proofs.Common.{◌≡◌, ◌≤◌, ℕ, ◌+◌, true, false, ◌&&◌, Some, None, List, [], ◌∷◌, ◌++◌, length, nat_eq, if◌then◌else◌, IsTrue, refl, sym, ap, subst, ◌∙◌, arith}
 use Rattle.std.specs.List.{AllByRecursion, cons_option}
 use Rattle.ck_disk.specs.Disk.{Meaning}
 use Rattle.ck_model.specs.declared.call.Call.{Call}

@@ -1,5 +1,5 @@
 -- A checkpoint that a call goes on to strip: that of a conversion step by step which was done.
-use Rattle.std.proofs.Common.{◌≡◌, ◌≢◌, ◌⊎◌, inl, inr, ℕ, zero, suc, ◌+◌, Bool, true, false, not, cond, ◌&&◌, Option, Some, None, IfSome, IfNone, IsSome, MatchOption, if◌then◌else◌, List, [], ◌∷◌, ◌++◌, length, slice_get, take, find, nat_eq, refl, sym, ap, subst, ◌∙◌, arith}
+use Rattle.std.proofs.Common.{◌≡◌, inl, inr, ℕ, ◌+◌, Bool, true, false, not, cond, ◌&&◌, Option, Some, None, IfSome, IfNone, IsSome, MatchOption, if◌then◌else◌, List, [], ◌∷◌, ◌++◌, length, slice_get, find, nat_eq, refl, sym, ap, subst, ◌∙◌, arith}
 use Rattle.std.specs.Option.{option_map, option_map_or, option_or}
 use Rattle.std.specs.Cmp.Lexicographic.{pointwise}
 use Rattle.std.specs.FinMap as map
@@ -13,19 +13,19 @@ use Rattle.ck_model.specs.declared.call.Call.TheVariants.{Nodata}
 use Rattle.ck_model.specs.declared.checkpoint.Fileset.{Fileset}
 use Rattle.ck_model.specs.declared.entry.Entry.{Entry}
 use Rattle.ck_model.specs.declared.reply.Reply.{Reply}
-use Rattle.ck_model.specs.declared.reply.Reply.TheVariants.{Broken, Done, Delayed}
+use Rattle.ck_model.specs.declared.reply.Reply.TheVariants.{Broken, Done}
 use Rattle.ck_model.specs.Chain.{is_live, keeps_data}
 use Rattle.ck_model.specs.CheckpointCalls.{checkpoint_named}
 use Rattle.ck_model.specs.History.{CallsBy, numbers_of, reply_number, state, is_broken, is_write_fault}
 use Rattle.ck_model.specs.Streams.{Texts}
-use Rattle.ck_model.specs.Table.{Table, IsTable, with_fileset}
+use Rattle.ck_model.specs.Table.{Table, IsTable}
 use Rattle.ck_model.specs.TableWorld.{checkpoint_on, world_on}
 use Rattle.ck_model.specs.Values.{Store}
 use Rattle.ck_model.specs.World.{World, Mounts}
 use Rattle.ck_nodata.specs.StripItem.{unstripped_count}
 use Rattle.ck_table.specs.Flags.{as_nodata, with_nodata}
 use Rattle.ck_table.specs.Names.{id_named, is_named}
-use Rattle.ck_table.proofs.FlagLaws.{at_set, newer-with_nodata}
+use Rattle.ck_table.proofs.FlagLaws.{newer-with_nodata}
 use Rattle.ck_table.proofs.IdLaws.{get-recorded}
 use Rattle.ck_table.proofs.LeaveLaws.{stands_live}
 use Rattle.ck_table.proofs.WorldLaws.{named-some}

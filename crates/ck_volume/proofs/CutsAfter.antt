@@ -1,15 +1,14 @@
 -- What an event and a commit leave of the cuts of a history.
-use Rattle.std.proofs.Common.{◌≡◌, ◌≢◌, ◌⊎◌, inl, inr, ⊎_elim, ℕ, ◌+◌, ◌≤◌, ◌&&◌, Bool, true, false, None, Some, Option, is_some, IsTrue, IsSome, List, [], ◌∷◌, ◌++◌, length, if◌then◌else◌, refl, sym, ap, ◌∙◌, subst, arith}
+use Rattle.std.proofs.Common.{◌≡◌, ◌⊎◌, inl, inr, ⊎_elim, ℕ, ◌≤◌, ◌&&◌, Bool, true, false, None, Some, Option, IsTrue, List, [], ◌∷◌, ◌++◌, if◌then◌else◌, refl, sym, ap, ◌∙◌, subst, arith}
 use Rattle.std.specs.Prelude.{MatchOption}
 use Rattle.std.specs.Option.{option_or}
 use mathlib.Core.Bool.{false≢true}
-use Rattle.ck_disk.specs.Disk.{Image, Meaning, Lawful, LeavesOnly}
+use Rattle.ck_disk.specs.Disk.{Meaning, Lawful}
 use Rattle.ck_model.specs.declared.call.Call.{Call}
 use Rattle.ck_model.specs.declared.call.Call.TheVariants.{Sync}
 use Rattle.ck_model.specs.declared.entry.Entry.{Entry}
 use Rattle.ck_model.specs.declared.reply.Reply.{Reply}
 use Rattle.ck_model.specs.declared.reply.Reply.TheVariants.{Done, Broken}
-use Rattle.ck_model.specs.Space.{without_picks}
 use Rattle.ck_model.specs.World.{World, unmounted}
 use Rattle.ck_model.specs.History.{is_fault, is_write_fault, is_broken}
 use Rattle.ck_volume.specs.declared.commit.CommitAnswer.{CommitAnswer}

@@ -1,5 +1,5 @@
 -- Where it is known that an image has a world and nothing beside it, but not in which way, it has: an image has one table.
-use Rattle.std.proofs.Common.{◌≡◌, ℕ, ◌<◌, Bool, true, false, Option, Some, None, List, length, refl, sym, ap, subst, ◌∙◌}
+use Rattle.std.proofs.Common.{◌≡◌, ℕ, false, Option, Some, None, List, refl, sym, ap, subst, ◌∙◌}
 use mathlib.Core.Logic.{∥∥₁_elim, ∥∥₁_map}
 use mathlib.Core.HLevel.{Σ_prop_path}
 use Rattle.std.specs.FinMap as map
@@ -27,7 +27,6 @@ use Rattle.ck_model.specs.TableWorld.{world_on, extent_count}
 use Rattle.ck_model.specs.Table.{Table, record_count}
 use Rattle.ck_data.specs.Device.{store_on}
 use Rattle.ck_engine.specs.Exact.{IsExact}
-use Rattle.ck_engine.specs.Safe.{HoldsTable}
 use Rattle.ck_volume.proofs.StoodLaws.{world-set}
 
 IsKey-prop : (key : Key) → IsProp (IsKey key)

@@ -1,6 +1,5 @@
 -- What a read that is on its way has to do with the history and with the present world.
 use Rattle.std.proofs.Common.{◌≡◌, ◌≢◌, ◌≤◌, ◌<◌, ◌⊎◌, inl, inr, ℕ, zero, suc, ◌+◌, ◌-◌, ◌/◌, Bool, true, false, Option, Some, None, List, [], ◌∷◌, ◌++◌, length, find, min, nat_eq, slice_get, Result, if◌then◌else◌, IsTrue, refl, sym, ap, subst, ◌∙◌, arith}
-use Rattle.std.specs.Prelude.{⊤}
 use Rattle.std.specs.List.{range_with_len}
 use Rattle.std.proofs.lemmas.Bool.{cases_lt, eqb-true, false_from_ne_true}
 use Rattle.std.proofs.lemmas.Bool.Decides.{nat_tests}
@@ -22,21 +21,21 @@ use Rattle.ck_model.specs.Changes.{touched}
 use Rattle.ck_model.specs.CheckpointCalls.{checkpoint_named}
 use Rattle.ck_model.specs.Streams.{Texts}
 use Rattle.ck_model.specs.World.{World, Checkpoint, has_id}
-use Rattle.ck_model.specs.History.{CallsBy, IsLegal, begun, past_of, numbers_of, state}
+use Rattle.ck_model.specs.History.{CallsBy, begun, numbers_of, state}
 use Rattle.ck_laws.specs.Laws.{IsOrdered, frozen}
-use Rattle.ck_laws.specs.Fits.{Reading, IsReadingOf, FitsCall, Fits}
+use Rattle.ck_laws.specs.Fits.{Reading, IsReadingOf, FitsCall}
 use Rattle.ck_laws.proofs.OthersLaws.{fits_last_lem, kept_maps_are_frozen_lem}
 use Rattle.ck_laws.proofs.TableLaws.{tables_are_ordered_lem}
 use Rattle.ck_log.specs.Layout.{base_of}
 use Rattle.ck_data.specs.Device.{store_on}
 use Rattle.ck_read.specs.declared.progress.ReadProgress.{ReadProgress}
 use Rattle.ck_read.specs.Mounted.{IsReadIn, IsReadNow}
-use Rattle.ck_read.specs.Progress.{all_turns, left_len, next_place, turns_had, turns_left, turns_of, IsOnWay, IsReadOf}
+use Rattle.ck_read.specs.Progress.{all_turns, left_len, next_place, turns_had, turns_left, turns_of, IsOnWay}
 use Rattle.ck_engine.specs.Recovery.{Recovers}
 use Rattle.ck_engine.proofs.RecoveryLaws.{recovered_table}
 use Rattle.ck_volume.specs.declared.event.Progress.{Progress}
 use Rattle.ck_volume.specs.declared.event.Progress.TheVariants as progress
-use Rattle.ck_volume.specs.Kept.{HasCalls, Stands, broken_by}
+use Rattle.ck_volume.specs.Kept.{HasCalls, Stands}
 use Rattle.ck_volume.specs.Present.{Present, history_of, world_of}
 use Rattle.ck_volume.specs.Progress.{had_of, reading_of, IsBegunFor, FitsHistory, FitsNow, FitsStrip, FitsWorld, StripsNamed}
 use Rattle.ck_volume.specs.Told.{AreAnswered}

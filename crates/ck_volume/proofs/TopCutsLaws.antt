@@ -1,13 +1,11 @@
 -- From what a volume keeps to what a caller tells.
-use Rattle.std.proofs.Common.{◌≡◌, ◌⊎◌, inl, inr, ⊎_elim, ℕ, zero, ◌+◌, ◌≤◌, Bool, true, false, Option, Some, IsTrue, List, [], ◌∷◌, ◌++◌, length, take, if◌then◌else◌, refl, sym, ap, ◌∙◌, subst, arith}
+use Rattle.std.proofs.Common.{◌≡◌, ℕ, ◌+◌, ◌≤◌, Bool, true, false, Some, List, [], ◌∷◌, ◌++◌, length, if◌then◌else◌, sym, ap, ◌∙◌, subst, arith}
 use Rattle.std.specs.Option.{option_map_or}
 use Rattle.ck_disk.specs.Disk.{Image, Meaning}
 use Rattle.ck_model.specs.declared.call.Call.{Call}
 use Rattle.ck_model.specs.declared.entry.Entry.{Entry}
-use Rattle.ck_model.specs.Streams.{Texts}
-use Rattle.ck_model.specs.Space.{without_picks}
-use Rattle.ck_model.specs.World.{World, unmounted}
-use Rattle.ck_model.specs.History.{CallsBy, state}
+use Rattle.ck_model.specs.World.{World}
+use Rattle.ck_model.specs.History.{CallsBy}
 use Rattle.ck_volume.specs.Causes.{acknowledges}
 use Rattle.ck_volume.specs.Cuts.{OpensToCut}
 use Rattle.ck_engine.specs.Recovery.{Recovers}

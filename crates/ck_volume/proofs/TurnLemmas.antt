@@ -1,15 +1,12 @@
 -- What one event of a read of a checkpoint answers.
-use Rattle.std.proofs.Common.{◌≡◌, ℕ, ◌+◌, Bool, true, false, IfSome, List, length, Option, Some, None, Result, Ok, Err, IsTrue, MatchBool, nat_eq, refl, sym, ap, subst, ◌∙◌, arith}
-use Rattle.std.specs.Prelude.{⊤}
+use Rattle.std.proofs.Common.{◌≡◌, ℕ, false, IfSome, List, length, Ok, MatchBool, refl, sym, ap, subst, ◌∙◌, arith}
 use mathlib.Core.Bool.{false≢true}
 use Rattle.std.proofs.lemmas.Bool.Decides.{nat_tests}
 use Rattle.ck_disk.specs.Disk.{Meaning}
-use Rattle.ck_data.specs.declared.fault.Fault.{Fault}
-use Rattle.ck_model.specs.declared.call.Call.{Call}
 use Rattle.ck_model.specs.declared.call.Call.TheVariants.{Cread}
 use Rattle.ck_model.specs.declared.reply.Reply.{Reply}
 use Rattle.ck_model.specs.declared.reply.Reply.TheVariants.{Bytes}
-use Rattle.ck_model.specs.History.{is_fault, is_write_fault, is_broken, reply_number}
+use Rattle.ck_model.specs.History.{is_fault, is_write_fault, is_broken}
 use Rattle.ck_model.specs.ReadCalls.{checkpoint_read}
 use Rattle.ck_model.specs.Step.{answered, step}
 use Rattle.ck_model.specs.Streams.{Texts}

@@ -1,5 +1,5 @@
 -- How far a call has come that takes more than one event.
-use Rattle.std.specs.Prelude.{◌≡◌, ⊤, ℕ, ◌+◌, true, List, Option, Some, None, Ok, IsTrue, length, slice_get, take}
+use Rattle.std.specs.Prelude.{◌≡◌, ⊤, ℕ, true, List, Option, Some, None, Ok, IsTrue, length, slice_get, take}
 use Rattle.ck_disk.specs.Disk.{Meaning}
 use Rattle.ck_model.specs.declared.call.Call.{Call}
 use Rattle.ck_model.specs.declared.call.Call.TheVariants.{Cread, Nodata}

@@ -92,7 +92,7 @@ pub record GoesOn {D : Type 0} {g : Ghosts D} (means : D → Meaning) (before af
   pub turns : had_of now ≡ had_of was + 1
   pub fits : FitsHistory (means (origin_of after)) (told_of after) (history_of after) actor call now
 
--- One data block more was stripped, and one of the checkpoint is left; or the call is through, and none of it is left. The device isn't
+-- One data block more was stripped, and the call goes on; or it is through, and none of its checkpoint's is left. The device isn't
 -- called, and no entry comes.
 pub record StripsOn {D : Type 0} {g : Ghosts D} (means : D → Meaning) (before after : Volume D g) (id : ℕ) (turn : Turn) (now : Progress) : Type 0 where
   pub log : KeepsLog before after

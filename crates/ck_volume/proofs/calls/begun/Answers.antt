@@ -5,7 +5,7 @@ use Rattle.ck_disk.specs.Runs.{Runs}
 use Rattle.ck_engine.proofs.KeptLaws.{recovers-one}
 use Rattle.ck_volume.specs.Causes.{HasCauses}
 use Rattle.ck_volume.specs.Cuts.{LeavesCuts}
-use Rattle.ck_volume.specs.Kept.{broken_by, BreaksFrom, HasCalls, Stands, IsKept}
+use Rattle.ck_volume.specs.Kept.{broken_by, BreaksFrom, HasCalls, Stands}
 use Rattle.ck_volume.specs.Present.{present, history_of, broken_of}
 use Rattle.ck_volume.proofs.CallsLemmas.{calls-none}
 use Rattle.ck_volume.proofs.CausesLemmas.{causes-none}

@@ -8,7 +8,6 @@ use Rattle.ck_volume.specs.declared.event.Progress.{Progress}
 use Rattle.ck_volume.specs.declared.event.Progress.TheVariants.{Strip}
 use Rattle.ck_volume.specs.Conversion.{strip_begun, ConvertsBy}
 use Rattle.ck_volume.specs.Event.{newest, Follows}
-use Rattle.ck_volume.specs.Present.{present}
 use Rattle.ck_volume.specs.Progress.{FitsHistory}
 use Rattle.ck_volume.specs.Volume.{broken_of, disk_of, history_of, length_of, origin_of, past_on, present_of, table_of, told_of}
 use Rattle.ck_volume.proofs.ConversionLemmas.{add_none, begun_done, begun_log, begun_more, begun_past, begun_stayed, begun_went, converts_first, entries_had_none, fits_begun, if_more, on_entry, unbroken_done}

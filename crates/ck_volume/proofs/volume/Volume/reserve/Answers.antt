@@ -1,9 +1,7 @@
-use Rattle.std.proofs.Common.{◌≡◌, List, ap, sym, subst}
-use Rattle.ck_history.specs.History.{entries_of}
+use Rattle.std.proofs.Common.{List, ap, sym, subst}
 use Rattle.ck_model.specs.declared.entry.Entry.{Entry}
 use Rattle.ck_engine.specs.Engine.{disk_of}
 use Rattle.ck_volume.specs.Kept.{IsKept}
-use Rattle.ck_volume.specs.Present.{Present}
 use Rattle.ck_volume.specs.Told.{told_of}
 use Rattle.ck_volume.proofs.volume.Volume.reserve.Goals as goal
 
