@@ -24,7 +24,7 @@ use Rattle.ck_record.specs.declared.records.Record.{Record}
 use Rattle.ck_record.specs.declared.records.Record.TheVariants.{Free, Counters as CountersRecord, Fileset as FilesetRecord, Entry}
 use Rattle.ck_record.specs.Record.{IsRecord}
 use Rattle.ck_area.specs.Area.{Area, entries_in, filesets_in, counters_in, no_counters, table_of, records_of, written_as, AreRecords, fileset_slots, entry_slots, free_slots, left_free}
-use Rattle.ck_area.specs.Damage.{breaks_fileset, breaks_lower, damage, is_unbuilt_form, is_unbuilt}
+use Rattle.ck_area.specs.Damage.{breaks_fileset, breaks_lower, damage}
 use Rattle.ck_area.proofs.Fronts.{Each, none_of, none_passes, passes_none}
 use Rattle.ck_area.proofs.SlotsLemmas.{IsFineWhere, EntryFine, FilesetFine, entries_in-append, filesets_in-append, entries_in-more, filesets_in-more, no_damage}
 use Rattle.ck_area.proofs.UndamagedLemmas.{fileset_among}
@@ -264,17 +264,3 @@ written_within slots t lawful =
           (all_joined (λ x. IfSome x IsRecord) (fileset_slots fsx) (entry_slots es) (filesets_within fsx filesets) (entries_within es entries))
           (free_within (left_free slots t)),
     )
-
--- ---- forms that aren't built
-
--- where no fileset is of such a form, none is in the area
-pub built_written : (slots : ℕ) (t : Table) → ((id : ℕ) (f : Fileset) → map.get t.filesets id ≡ Some f → is_unbuilt_form f ≡ false) → is_unbuilt (written_as slots t) ≡ false
-built_written slots t built =
-    ap (list_any (λ e. is_unbuilt_form e.1)) (filesets_written slots t)
-    ∙ none_passes (λ e. is_unbuilt_form e.1) (map.entries t.filesets) (λ e h. built e.0 e.1 (fileset_there t e h))
-
--- where none is in an area, no fileset of its table is of such a form
-pub built_read : (blocks records : ℕ) (area : Area) → is_unbuilt area ≡ false → (id : ℕ) (f : Fileset) → map.get (table_of blocks records area).filesets id ≡ Some f → is_unbuilt_form f ≡ false
-built_read blocks records area none id f is =
-    passes_none (λ e. is_unbuilt_form e.1) (id, f) (filesets_in area) none
-    (fileset_among (unwrap_or (counters_in area) no_counters) blocks records (entries_in area) (filesets_in area) id f is)

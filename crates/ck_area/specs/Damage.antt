@@ -1,4 +1,4 @@
--- The rules that the slots of a table obey, the first slot that breaks one, and the forms that aren't built yet.
+-- The rules that the slots of a table obey, and the first slot that breaks one.
 use Rattle.std.specs.Prelude.{◌≡◌, ◌≤◌, ◌<◌, ℕ, suc, zero, ◌+◌, Bool, true, false, not, ◌&&◌, ◌||◌, List, [], ◌∷◌, Option, Some, None, is_some, length, take, filter, nat_eq, nat_le, nat_lt, if◌then◌else◌}
 use Rattle.std.specs.Ordering.{nat_cmp, eq_by_cmp}
 use Rattle.std.specs.Cmp.Lexicographic.{pointwise}
@@ -157,12 +157,3 @@ damaged_from blocks records area slot (suc left) =
 -- the lowest slot that breaks a rule
 abbrev pub damage : ℕ → ℕ → Area → Option ℕ
 damage blocks records area = damaged_from blocks records area 0 (length area)
-
--- ---- forms that this version doesn't read
-
-abbrev pub is_unbuilt_form : Fileset → Bool
-is_unbuilt_form fileset = fileset.removable
-
--- a removable checkpoint stands there
-abbrev pub is_unbuilt : Area → Bool
-is_unbuilt area = list_any (λ e. is_unbuilt_form e.1) (filesets_in area)

@@ -5,7 +5,6 @@ mod alone;
 mod block;
 mod broken;
 mod crowd;
-mod forms;
 mod holder;
 mod known;
 mod parts;
@@ -17,5 +16,4 @@ mod whole;
 
 pub use block::{read_block, slot_in};
 pub use broken::first_damage;
-pub use forms::is_unbuilt;
 pub use text::spell_block;

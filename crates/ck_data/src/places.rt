@@ -10,7 +10,7 @@ ghost use Rattle.ck_data.specs.declared.fault.Fault.TheVariants.{ReadFault, Writ
 ghost use Rattle.ck_files.specs.Allocated.{is_taken, IsAllocated, KeepsBusy};
 ghost use Rattle.ck_data.specs.Device.{store_on};
 ghost use Rattle.ck_files.specs.Places.{places_of, AreDistinct, ArePlaced, AreHeld};
-ghost use Rattle.ck_files.specs.Plain.{IsOurs};
+ghost use Rattle.ck_files.specs.Files.{IsOurs};
 ghost use Rattle.ck_data.specs.Stored.{OnlyStores};
 ghost use Rattle.ck_data.specs.Writes.{AgreeBut, IsWritingFault};
 

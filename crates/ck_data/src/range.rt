@@ -6,7 +6,7 @@ ghost use Rattle.ck_model.specs.Values.{cells_on};
 ghost use Rattle.ck_model.specs.Rules.{block_in};
 ghost use Rattle.ck_model.specs.Chain.{value_at};
 ghost use Rattle.ck_model.specs.TableWorld.{values_of};
-ghost use Rattle.ck_files.specs.Plain.{IsOurs};
+ghost use Rattle.ck_files.specs.Files.{IsOurs};
 ghost use Rattle.ck_data.specs.Device.{store_on};
 ghost use Rattle.ck_data.specs.declared.fault.Fault.TheVariants.{ReadFault};
 ghost use Rattle.ck_data.specs.Reads.{bytes_of, part_of, IsFilled, IsReadingFault};

@@ -5,7 +5,7 @@ ghost use Rattle.ck_model.specs.History.{is_fault};
 ghost use Rattle.ck_model.specs.Step.{answered};
 ghost use Rattle.ck_model.specs.TableWorld.{world_on};
 ghost use Rattle.ck_data.specs.Device.{store_on};
-ghost use Rattle.ck_files.specs.Plain.{IsOurs};
+ghost use Rattle.ck_files.specs.Files.{IsOurs};
 ghost use Rattle.ck_files.specs.Room.{answered_with};
 ghost use Rattle.ck_data.specs.Reads.{IsReadingFault};
 ghost use Rattle.ck_disk.specs.Runs.{OnlyReads};

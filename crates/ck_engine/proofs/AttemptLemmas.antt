@@ -17,8 +17,7 @@ use Rattle.ck_nodata.specs.StripItem.{IsStrippedTo}
 use Rattle.ck_files.specs.Allocated.{IsAllocated, KeepsBusy}
 use Rattle.ck_engine.specs.Committed.{IsCommitted, Keeps, OpensToEither}
 use Rattle.ck_data.specs.Device.{store_on}
-use Rattle.ck_files.specs.Files.{AreFiles}
-use Rattle.ck_files.specs.Plain.{IsOurs}
+use Rattle.ck_files.specs.Files.{AreFiles, IsOurs}
 use Rattle.ck_disk.specs.Runs.{OnlyReads, Runs}
 use Rattle.ck_data.specs.Stored.{StoredOrSame, OnlyStores}
 use Rattle.ck_slots.specs.Committed.{Commits}

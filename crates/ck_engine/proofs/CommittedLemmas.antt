@@ -13,7 +13,7 @@ use Rattle.ck_area.specs.Area.{AreSlots, written_as}
 use Rattle.ck_files.specs.Allocated.{is_named, is_busy, IsAllocated, KeepsBusy}
 use Rattle.ck_engine.specs.Committed.{IsCommitted, Keeps, OpensToEither}
 use Rattle.ck_data.specs.Device.{store_on}
-use Rattle.ck_files.specs.Plain.{IsOurs}
+use Rattle.ck_files.specs.Files.{IsOurs}
 use Rattle.ck_disk.specs.Runs.{OnlyReads}
 use Rattle.ck_engine.specs.Recovery.{Recovers}
 use Rattle.ck_data.specs.Stored.{LeavesTorn, OnlyStores}

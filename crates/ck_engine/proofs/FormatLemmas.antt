@@ -25,7 +25,7 @@ use Rattle.ck_files.specs.Drained.{IsDrained}
 use Rattle.ck_data.specs.Device.{store_on}
 use Rattle.ck_engine.specs.Committed.{IsCommitted}
 use Rattle.ck_engine.specs.Formatted.{new_world, IsFormatted}
-use Rattle.ck_files.specs.Plain.{IsOurs, IsPlain}
+use Rattle.ck_files.specs.Files.{IsOurs}
 use Rattle.ck_engine.specs.Safe.{HoldsTable}
 use Rattle.ck_engine.specs.declared.engine.Engine.{Engine}
 use Rattle.ck_engine.specs.Engine.{table_of, mounts_of, blocks_of, layout_of}

@@ -29,7 +29,7 @@ use Rattle.ck_data.specs.Device.{store_on}
 use Rattle.ck_engine.specs.Opened.{IsOpened, IsFound, IsOpenFault}
 use Rattle.ck_engine.specs.declared.open.OpenFault.{OpenFault}
 use Rattle.ck_engine.specs.declared.open.OpenFault.TheVariants as fault
-use Rattle.ck_files.specs.Plain.{IsOurs, IsPlain}
+use Rattle.ck_files.specs.Files.{IsOurs}
 use Rattle.ck_disk.specs.Runs.{OnlyReads}
 use Rattle.ck_engine.specs.Recovery.{Recovery, NotVolume, BadFormat, Damaged, FindsBy, Finds, Recovers, recovery_of, unless_damaged}
 use Rattle.ck_engine.specs.Safe.{HoldsTable, IsSafe}

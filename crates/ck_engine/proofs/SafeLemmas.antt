@@ -15,7 +15,7 @@ use Rattle.ck_area.specs.Damage.{damage, is_unbuilt}
 use Rattle.ck_area.proofs.WrittenLaws.{read_again, undamaged_written, built_written}
 use Rattle.ck_files.specs.Allocated.{is_named, is_busy, SameNamed}
 use Rattle.ck_data.specs.Device.{store_on}
-use Rattle.ck_files.specs.Plain.{IsOurs}
+use Rattle.ck_files.specs.Files.{IsOurs}
 use Rattle.ck_disk.specs.Runs.{OnlyReads}
 use Rattle.ck_engine.specs.Recovery.{Opens, BadFormat, world_in, unless_damaged, recovery_of, FindsBy, Recovers}
 use Rattle.ck_engine.specs.Safe.{IsNamedAt, HoldsTable, IsSafe}

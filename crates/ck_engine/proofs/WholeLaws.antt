@@ -17,7 +17,7 @@ use Rattle.ck_model.specs.Rules.{KeyBelow, HeldBelow, IsOwn, IsOrderly, IsSound,
 use Rattle.ck_model.specs.Table.{Table, column, newer}
 use Rattle.ck_slots.specs.Lawful.{IsTable-prop}
 use Rattle.ck_engine.specs.declared.engine.Engine.{Engine}
-use Rattle.ck_files.specs.Plain.{IsOurs}
+use Rattle.ck_files.specs.Files.{IsOurs}
 use Rattle.ck_engine.specs.Engine.{table_of, IsWhole}
 
 KeyBelow-prop : (limit : ℕ) (key : Key) → IsProp (KeyBelow limit key)

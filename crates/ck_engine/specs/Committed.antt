@@ -9,7 +9,7 @@ use Rattle.ck_model.specs.Table.{Table}
 use Rattle.ck_model.specs.TableWorld.{world_on}
 use Rattle.ck_files.specs.Allocated.{is_named, is_busy}
 use Rattle.ck_data.specs.Device.{store_on}
-use Rattle.ck_files.specs.Plain.{IsOurs}
+use Rattle.ck_files.specs.Files.{IsOurs}
 use Rattle.ck_engine.specs.Recovery.{Recovers}
 use Rattle.ck_engine.specs.Safe.{IsSafe}
 

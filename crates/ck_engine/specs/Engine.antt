@@ -5,6 +5,7 @@ use Rattle.ck_disk.specs.Disk.{Image, Meaning, LeavesOnly}
 use Rattle.ck_log.specs.Layout.{Layout, base_of, size_of}
 use Rattle.ck_log.specs.Images.{Settled}
 use Rattle.ck_alloc.specs.Blocks.{Allocation}
+use Rattle.ck_model.specs.Space.{without_picks}
 use Rattle.ck_model.specs.World.{World, Mounts, unmounted}
 use Rattle.ck_model.specs.Table.{Table}
 use Rattle.ck_model.specs.TableWorld.{world_on}
@@ -74,22 +75,38 @@ pub record IsUnnoticed {D : Type 0} (before after : Engine D) : Type 0 where
 
 -- ---- what a call leaves on the device
 
--- While it runs, a crash leaves the world that was committed last, or the present one from before the call. Where no
--- write failed, one of the two is committed, and the volume goes on.
-pub record GoesOn {D : Type 0} (old new : Meaning) (before after : Engine D) : Type 0 where
+-- While it runs, a crash leaves the world that was committed last, or the present one from before the call without the checkpoints that
+-- it gave up. Where no write failed, one of the two is committed, and the volume goes on.
+pub record GoesOnGiving {D : Type 0} (given : ℕ) (old new : Meaning) (before after : Engine D) : Type 0 where
   pub whole : IsWhole new after
-  pub kept : IsTrue old.tells → (w : World) → KeepsWorld old before w → KeepsWorld new after w ⊎ KeepsWorld new after (unmounted (world_of old.shows before))
+  pub kept : IsTrue old.tells → (w : World) → KeepsWorld old before w
+      → KeepsWorld new after w ⊎ KeepsWorld new after (unmounted (without_picks given (world_of old.shows before)))
 
 -- a failed write breaks it, and nothing else does
-abbrev pub GoesOnOrBreaks : {D : Type 0} {Y : Type 0} → Meaning → Meaning → Engine D → Engine D → Result Y Fault → Type 0
-GoesOnOrBreaks old new before after (Ok y) = GoesOn old new before after
-GoesOnOrBreaks old new before after (Err why) = (why ≡ fault.WriteFault) ⊎ GoesOn old new before after
+abbrev pub GoesOnGivingOrBreaks : {D : Type 0} {Y : Type 0} → ℕ → Meaning → Meaning → Engine D → Engine D → Result Y Fault → Type 0
+GoesOnGivingOrBreaks given old new before after (Ok y) = GoesOnGiving given old new before after
+GoesOnGivingOrBreaks given old new before after (Err why) = (why ≡ fault.WriteFault) ⊎ GoesOnGiving given old new before after
 
--- a crash while a call runs
-abbrev pub Survives : {D : Type 0} → Meaning → Meaning → Engine D → Type 0
-Survives old new before = IsTrue old.tells → (w : World) → KeepsWorld old before w → LeavesOnly old new (OpensToEither w (unmounted (world_of old.shows before)))
+-- a crash while a call runs that gives up so many checkpoints
+abbrev pub SurvivesGiving : {D : Type 0} → ℕ → Meaning → Meaning → Engine D → Type 0
+SurvivesGiving given old new before =
+    IsTrue old.tells → (w : World) → KeepsWorld old before w → LeavesOnly old new (OpensToEither w (unmounted (without_picks given (world_of old.shows before))))
 
 -- What an attempt at a call keeps, whatever it answers. A crash at any moment of it leaves one of two worlds.
-pub record IsAttempt {D : Type 0} (old new : Meaning) (before after : Engine D) : Type 0 where
+pub record IsAttemptGiving {D : Type 0} (given : ℕ) (old new : Meaning) (before after : Engine D) : Type 0 where
   pub runs : Runs old new
-  pub survives : Survives old new before
+  pub survives : SurvivesGiving given old new before
+
+-- ---- where nothing is given up
+
+abbrev pub GoesOn : {D : Type 0} → Meaning → Meaning → Engine D → Engine D → Type 0
+GoesOn old new before after = GoesOnGiving 0 old new before after
+
+abbrev pub GoesOnOrBreaks : {D : Type 0} {Y : Type 0} → Meaning → Meaning → Engine D → Engine D → Result Y Fault → Type 0
+GoesOnOrBreaks old new before after result = GoesOnGivingOrBreaks 0 old new before after result
+
+abbrev pub Survives : {D : Type 0} → Meaning → Meaning → Engine D → Type 0
+Survives old new before = SurvivesGiving 0 old new before
+
+abbrev pub IsAttempt : {D : Type 0} → Meaning → Meaning → Engine D → Engine D → Type 0
+IsAttempt old new before after = IsAttemptGiving 0 old new before after

@@ -1,5 +1,5 @@
 -- What opening finds on a device.
-use Rattle.std.specs.Prelude.{◌≡◌, ℕ, ◌+◌, ◌/◌, ◌%◌, Option, Some, None, if◌then◌else◌}
+use Rattle.std.specs.Prelude.{◌≡◌, ℕ, ◌+◌, ◌/◌, ◌%◌, Option, Some, None}
 use Rattle.std.specs.FinMap as map
 use Rattle.ck_disk.specs.Disk.{Image}
 use Rattle.ck_log.specs.Layout.{Layout, area_at, base_of}
@@ -10,7 +10,7 @@ use Rattle.ck_model.specs.Table.{Table, IsTable}
 use Rattle.ck_model.specs.World.{World}
 use Rattle.ck_model.specs.TableWorld.{world_on}
 use Rattle.ck_area.specs.Area.{Area, AreSlots, table_of}
-use Rattle.ck_area.specs.Damage.{damage, is_unbuilt}
+use Rattle.ck_area.specs.Damage.{damage}
 use Rattle.ck_data.specs.Device.{store_on}
 
 -- No volume, one of another format, one with a slot that breaks a rule, or a world without mounts.
@@ -31,8 +31,7 @@ unless_damaged layout image area (Some slot) = Damaged (area_at layout.records l
 
 -- what these slots say
 abbrev pub recovery_of : Layout → Image → Area → Recovery
-recovery_of layout image area =
-    if is_unbuilt area then BadFormat 0 else unless_damaged layout image area (damage layout.blocks layout.records area)
+recovery_of layout image area = unless_damaged layout image area (damage layout.blocks layout.records area)
 
 -- what opening finds where the header says this
 abbrev pub FindsBy : Recovered → Image → Recovery → Type 0

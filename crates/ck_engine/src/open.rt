@@ -6,7 +6,7 @@ ghost use Rattle.ck_log.specs.Layout.{size_of};
 ghost use Rattle.ck_slots.specs.Slots.{table_in};
 ghost use Rattle.ck_files.specs.Allocated.{IsAllocated};
 ghost use Rattle.ck_engine.specs.Opened.{IsOpened, IsOpenFault};
-ghost use Rattle.ck_files.specs.Plain.{IsOurs};
+ghost use Rattle.ck_files.specs.Files.{IsOurs};
 ghost use Rattle.ck_engine.specs.Engine.{disk_of};
 
 use crate::engine::Engine;
@@ -54,7 +54,6 @@ impl<D: Disk> Engine<D> {
         let mut disk = disk;
         let slots = match Slots::open(alloc, &region, &mut disk) {
             Ok(slots) => slots,
-            Err(OpenSlots::BadFormat(version)) => return Err(OpenFault::BadFormat(disk, version)),
             Err(OpenSlots::Damaged { block, slot }) => {
                 return Err(OpenFault::Damaged(disk, block, slot));
             }

@@ -22,7 +22,7 @@ use Rattle.ck_model.specs.TableWorld.{world_on}
 use Rattle.ck_model.specs.Placed.{NoneGone}
 use Rattle.ck_push.specs.Growth.{gains, losses, write_count}
 use Rattle.ck_files.specs.Drained.{IsDrained}
-use Rattle.ck_files.specs.Plain.{IsOurs}
+use Rattle.ck_files.specs.Files.{IsOurs}
 use Rattle.ck_files.specs.Room.{Grows, has_room, lack_of_room, answered_with}
 use Rattle.ck_files.specs.Changes.{raised, IsRaised, with_changes}
 use Rattle.ck_push.specs.Changes.{MayChangeAll, changed_all, AreMade}

@@ -32,7 +32,7 @@ use Rattle.ck_table.specs.Added.{new_id}
 use Rattle.ck_files.specs.Freeze.{refusal_of, refused_or}
 use Rattle.ck_nodata.proofs.HeldLaws.{records-is, records-within}
 use Rattle.ck_files.specs.Drained.{IsDrained}
-use Rattle.ck_files.specs.Plain.{IsOurs}
+use Rattle.ck_files.specs.Files.{IsOurs}
 use Rattle.ck_files.specs.Room.{answered_with}
 use Rattle.ck_files.specs.Places.{AreDistinct}
 use Rattle.ck_files.proofs.AllocatedLaws.{named_entry, extents_distinct}

@@ -1,5 +1,4 @@
 pub mod WorldLaws
-pub mod PlainLemmas
 pub mod UnseenLemmas
 pub mod AlikeLemmas
 pub mod DrainLemmas

@@ -9,7 +9,7 @@ use Rattle.ck_push.specs.Changed.{changed}
 use Rattle.ck_push.specs.Growth.{gains, losses}
 use Rattle.ck_push.proofs.RoomLaws.{room_after}
 use Rattle.ck_alloc.specs.Blocks.{Allocation}
-use Rattle.ck_files.specs.Plain.{IsOurs}
+use Rattle.ck_files.specs.Files.{IsOurs}
 use Rattle.ck_files.specs.Allocated.{is_named, is_taken, AreUnnamed, IsAllocatedBut, blocks_held}
 use Rattle.ck_files.specs.Changes.{written_by}
 use Rattle.ck_push.specs.Changes.{MayChangeAll, MayChange}

@@ -15,7 +15,7 @@ use Rattle.ck_model.specs.TableWorld.{world_on}
 use Rattle.ck_table.specs.Names as names
 use Rattle.ck_table.proofs.WorldLaws.{at_named, named-none}
 use Rattle.ck_files.specs.Mounts.{IsMounted}
-use Rattle.ck_files.specs.Plain.{IsOurs}
+use Rattle.ck_files.specs.Files.{IsOurs}
 use Rattle.ck_files.specs.Room.{answered_with}
 use Rattle.ck_files.specs.Reports.{standing_at}
 use Rattle.ck_files.proofs.Listed.{gone-is, standing-is}

@@ -26,7 +26,7 @@ use Rattle.ck_model.proofs.CellLaws.{get-marked}
 use Rattle.ck_nodata.proofs.HeldLaws.{records-within}
 use Rattle.ck_tree.specs.Map.{StandsFor, small_in, without_bytes}
 use Rattle.ck_tree.proofs.MapLaws.{stands_on, value_held}
-use Rattle.ck_files.specs.Plain.{IsOurs}
+use Rattle.ck_files.specs.Files.{IsOurs}
 
 -- ---- a checkpoint of either kind has the names and nodes of its fileset
 

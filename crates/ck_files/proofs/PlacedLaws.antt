@@ -21,7 +21,7 @@ use Rattle.ck_files.specs.Allocated.{is_named, IsAllocatedBut, SameNamed}
 use Rattle.ck_files.specs.Changes.{raised, IsRaised, written_by}
 use Rattle.ck_push.specs.Changes.{MayChangeAll, changed_all}
 use Rattle.ck_files.specs.Places.{ArePlaced, AreHeld}
-use Rattle.ck_files.specs.Plain.{IsOurs}
+use Rattle.ck_files.specs.Files.{IsOurs}
 use Rattle.ck_files.specs.Room.{has_room, answered_with}
 use Rattle.ck_nodata.specs.declared.item.StripItem.{StripItem}
 use Rattle.ck_nodata.specs.StripItem.{IsStrippedTo}

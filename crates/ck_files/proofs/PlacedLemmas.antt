@@ -48,7 +48,7 @@ use Rattle.ck_files.specs.Changes.{raised, IsRaised, with_changes, written_by}
 use Rattle.ck_push.specs.Changes.{MayChangeAll, AllApart, MayChange, changed_all}
 use Rattle.ck_files.specs.Places.{with_places, AreDistinct, AreHeld}
 use Rattle.ck_files.specs.Drained.{IsDrained}
-use Rattle.ck_files.specs.Plain.{IsOurs}
+use Rattle.ck_files.specs.Files.{IsOurs}
 use Rattle.ck_files.specs.Room.{has_room, lack_of_room, answered_with}
 use Rattle.ck_tree.proofs.MapLaws.{stands_on as stands}
 use Rattle.ck_files.proofs.NamedLaws.{extent_is, is-named}

@@ -18,7 +18,7 @@ use Rattle.ck_model.specs.Placed.{ArePlaced}
 use Rattle.ck_model.proofs.CountLaws.{all_placed}
 use Rattle.ck_nodata.proofs.HeldLaws.{held-is, held-within, records-is}
 use Rattle.ck_files.specs.Drained.{IsDrained}
-use Rattle.ck_files.specs.Plain.{IsPlain, IsOurs}
+use Rattle.ck_files.specs.Files.{IsOurs}
 use Rattle.ck_files.specs.Room.{Grows, has_room, lack_of_room, answered_with}
 
 -- ---- none is given up

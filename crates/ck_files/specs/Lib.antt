@@ -1,4 +1,3 @@
-pub mod Plain
 pub mod Allocated
 pub mod Room
 pub mod Changes
@@ -12,4 +11,6 @@ pub mod Built
 pub mod Worlds
 pub mod Removal
 pub mod Conversion
+pub mod Flag
 pub mod Drained
+pub mod Picks

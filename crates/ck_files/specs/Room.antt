@@ -1,5 +1,5 @@
 -- Whether a table has room for what a call puts, and the reply where it hasn't.
-use Rattle.std.specs.Prelude.{◌≡◌, ◌≤◌, ◌⊎◌, ℕ, ◌+◌, ◌-◌, ◌&&◌, Bool, false, List, if◌then◌else◌, nat_le}
+use Rattle.std.specs.Prelude.{◌≡◌, ◌≤◌, ◌⊎◌, ℕ, ◌+◌, ◌-◌, ◌&&◌, Bool, true, false, List, if◌then◌else◌, nat_le}
 use Rattle.ck_model.specs.declared.change.Change.{Change}
 use Rattle.ck_model.specs.declared.reply.Reply.{Reply}
 use Rattle.ck_model.specs.declared.reply.Reply.TheVariants.{NoSpace}
@@ -26,9 +26,22 @@ lack_of_room t blocks records =
     then NoSpace Records (record_count t) records t.records
     else NoSpace Blocks (extent_count t) blocks t.blocks
 
--- this reply, for which nothing is given up, and this next world
+-- this reply, for which so many checkpoints were given up, and this next world
+abbrev pub answered_after : ℕ → Reply → World → Outcome
+answered_after given reply next = record { reply = reply; given = given; next = next }
+
+-- nothing was given up
 abbrev pub answered_with : Reply → World → Outcome
-answered_with reply next = record { reply = reply; given = 0; next = next }
+answered_with reply next = answered_after 0 reply next
+
+-- so many were given up before
+abbrev pub given_before : ℕ → Outcome → Outcome
+given_before given outcome = record outcome { given = given + outcome.given }
+
+-- changes fit, and write so many data blocks
+pub record HasRoom (t : Table) (changes : List Change) (writes : ℕ) : Type 0 where
+  pub writes_are : writes ≡ write_count changes
+  pub fits : has_room t (write_count changes) (gains t changes - losses t changes) ≡ true
 
 -- where nothing is left to remove or to strip, changes don't fit, for this reason
 pub record IsLacking (t : Table) (changes : List Change) (answer : Reply) : Type 0 where

@@ -6,10 +6,9 @@ ghost use Rattle.ck_chain.specs.Changes.{deletions_first, key_of, value_after};
 ghost use Rattle.ck_push.specs.Changed.{changed};
 ghost use Rattle.ck_push.specs.Growth.{gains, growth, losses};
 ghost use Rattle.ck_files.specs.Allocated.{AreUnnamed, is_named, IsAllocated, IsAllocatedBut, KeepsBusy, blocks_held};
-ghost use Rattle.ck_files.specs.Plain.{IsOurs};
+ghost use Rattle.ck_files.specs.Files.{AreFiles, IsOurs};
 ghost use Rattle.ck_files.specs.Changes.{raised, IsRaised, written_by};
 ghost use Rattle.ck_push.specs.Changes.{MayChangeAll, MayChange, changed_all};
-ghost use Rattle.ck_files.specs.Files.{AreFiles};
 
 use ck_alloc::Blocks;
 use ck_model::{Change, Counters, Freed, Limits, Meta};

@@ -6,7 +6,7 @@ ghost use Rattle.ck_model.specs.Values.{Store};
 ghost use Rattle.ck_model.specs.World.{Mounts};
 ghost use Rattle.ck_nodata.specs.StripItem.{IsStrippedTo};
 ghost use Rattle.ck_files.specs.Conversion.{IsConverted};
-ghost use Rattle.ck_files.specs.Plain.{IsOurs};
+ghost use Rattle.ck_files.specs.Files.{IsOurs};
 ghost use Rattle.ck_files.specs.Room.{answered_with};
 
 use crate::strip::go_back;

@@ -4,9 +4,12 @@
 
 mod changes;
 mod conversion;
+mod flag;
 mod freeze;
+mod given;
 mod mounts;
 mod names;
+mod picks;
 mod planned;
 mod removal;
 mod reports;
@@ -15,7 +18,9 @@ mod strip;
 
 pub use changes::change_all;
 pub use conversion::convert;
+pub use flag::make_removable;
 pub use freeze::create;
+pub use given::Given;
 pub use mounts::{mount, mounted_at, umount};
 pub use names::{cls, ls, stat};
 pub use planned::{Planned, plan_changes};

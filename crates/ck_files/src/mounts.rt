@@ -6,7 +6,7 @@ ghost use Rattle.ck_model.specs.Table.{Table};
 ghost use Rattle.ck_model.specs.Values.{Store};
 ghost use Rattle.ck_model.specs.TableWorld.{world_on};
 ghost use Rattle.ck_files.specs.Mounts.{IsMounted};
-ghost use Rattle.ck_files.specs.Plain.{IsOurs};
+ghost use Rattle.ck_files.specs.Files.{IsOurs};
 ghost use Rattle.ck_files.specs.Room.{answered_with};
 
 use crate::reports::standing;

@@ -7,7 +7,7 @@ ghost use Rattle.ck_model.specs.Step.{answered};
 ghost use Rattle.ck_model.specs.Values.{Store, cells_on};
 ghost use Rattle.ck_model.specs.World.{Mounts, World};
 ghost use Rattle.ck_tree.specs.Map.{StandsFor};
-ghost use Rattle.ck_files.specs.Plain.{IsOurs};
+ghost use Rattle.ck_files.specs.Files.{IsOurs};
 ghost use Rattle.ck_files.specs.Room.{answered_with};
 
 use crate::mounts::mounted_at;

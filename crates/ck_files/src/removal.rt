@@ -12,7 +12,7 @@ ghost use Rattle.ck_nodata.specs.declared.item.StripItem.{StripItem};
 ghost use Rattle.ck_nodata.specs.StripItem.{unstripped_count, IsStrippedTo};
 ghost use Rattle.ck_files.specs.Allocated.{KeepsBusy, IsAllocated};
 ghost use Rattle.ck_files.specs.Drained.{IsDrained, IsStepped};
-ghost use Rattle.ck_files.specs.Plain.{IsOurs};
+ghost use Rattle.ck_files.specs.Files.{IsOurs};
 ghost use Rattle.ck_files.specs.Removal.{IsRemoved};
 ghost use Rattle.ck_files.specs.Room.{answered_with};
 ghost use Rattle.ck_files.specs.Worlds.{StandAlike};

@@ -4,7 +4,7 @@ ghost use Rattle.ck_model.specs.ReadCalls.{info_of, listing_of};
 ghost use Rattle.ck_model.specs.Values.{Store};
 ghost use Rattle.ck_model.specs.TableWorld.{extent_count, world_on};
 ghost use Rattle.ck_files.specs.Drained.{IsDrained};
-ghost use Rattle.ck_files.specs.Plain.{IsOurs};
+ghost use Rattle.ck_files.specs.Files.{IsOurs};
 ghost use Rattle.ck_files.specs.Reports.{limits_of, line_on, standing_at, state_shown};
 
 use ck_model::{CkptLine, CkptLines, Fileset, Kind, Limits, Meta, NoMemory, Reply, State};

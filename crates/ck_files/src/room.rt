@@ -1,13 +1,20 @@
-ghost use Rattle.std.specs.Prelude.{◌≡◌, ◌≤◌, ◌<◌, ◌-◌, ◌^◌, true, false, IfErr, IfOk, MatchOption, OnOk, length};
-ghost use Rattle.ck_model.specs.TableWorld.{extent_count};
-ghost use Rattle.ck_push.specs.Growth.{gains, losses, write_count};
+ghost use Rattle.std.specs.Prelude.{◌≡◌, ◌≤◌, ◌<◌, ◌-◌, ◌^◌, true, false, IfErr, IfOk, MatchOption, None, length};
+ghost use Rattle.ck_model.specs.FileCalls.{changed_by};
+ghost use Rattle.ck_model.specs.Step.{changing};
+ghost use Rattle.ck_model.specs.TableWorld.{extent_count, world_on};
+ghost use Rattle.ck_model.specs.Values.{Store};
+ghost use Rattle.ck_model.specs.World.{Mounts};
+ghost use Rattle.ck_model.specs.declared.call.Call.{Call};
 ghost use Rattle.ck_nodata.specs.StripItem.{IsStrippedTo};
+ghost use Rattle.ck_reclaim.specs.Removable.{pick_of};
+ghost use Rattle.ck_tree.specs.Plan.{IsPlan};
 ghost use Rattle.ck_files.specs.Allocated.{KeepsBusy, IsAllocated};
-ghost use Rattle.ck_files.specs.Files.{AreFiles};
-ghost use Rattle.ck_files.specs.Plain.{IsOurs};
-ghost use Rattle.ck_files.specs.Room.{has_room, lack_of_room, IsLacking};
-ghost use Rattle.ck_files.specs.Worlds.{StandAlike};
+ghost use Rattle.ck_files.specs.Files.{AreFiles, IsOurs};
+ghost use Rattle.ck_files.specs.Room.{given_before, has_room, lack_of_room, HasRoom, IsLacking};
+ghost use Rattle.ck_files.specs.Worlds.{StandAlike, StandsWithout};
 
+use crate::given::Given;
+use crate::picks::give_up_next;
 use crate::removal::drain;
 use ck_alloc::Blocks;
 use ck_model::{Change, Cost, Limits, Meta, Reply, SpaceOf};
@@ -63,9 +70,9 @@ pub fn lack<M: Meta>(meta: &M, blocks: &Blocks, limits: Limits, cost: &Cost) -> 
     None
 }
 
-/// Makes room for changes: where they don't fit at once, what is left to remove or to strip goes. Gives
-/// how many data blocks they write, or why they don't fit.
-pub(crate) fn make_room<M: Meta>(
+/// Whether changes fit once nothing is left to remove or to strip: how many data blocks they write, or why
+/// they don't fit. Data blocks that are pending count as free.
+fn room_left<M: Meta>(
     meta: &mut M,
     blocks: &mut Blocks,
     stripped: &mut StripItem,
@@ -78,19 +85,76 @@ pub(crate) fn make_room<M: Meta>(
     ensures alike { StandAlike (M.table meta.old) (M.table meta.new) }
     ensures files { AreFiles limits (M.table meta.new) blocks.new }
     ensures busy { KeepsBusy blocks.old blocks.new }
-    ensures writes { IfOk result (λ writes. writes ≡ write_count changes.now) }
-    ensures fits { OnOk result (has_room (M.table meta.new) (write_count changes.now) (gains (M.table meta.new) changes.now - losses (M.table meta.new) changes.now) ≡ true) }
+    ensures fits { IfOk result (HasRoom (M.table meta.new) changes.now) }
     ensures lack { IfErr result (IsLacking (M.table meta.new) changes.now) }
     ensures stripped { IsStrippedTo (M.table meta.new) stripped.new }
 {
-    let at_once = cost(meta, changes);
-    if fits(meta, blocks, &at_once) {
-        return Ok(at_once.blocks);
-    }
     drain(meta, blocks, stripped);
     let cost = cost(meta, changes);
     match lack(meta, blocks, limits, &cost) {
         Some(reply) => Err(reply),
         None => Ok(cost.blocks),
     }
+}
+
+/// Makes room for changes that don't fit at once: what is left to remove or to strip goes, and then removable
+/// checkpoints are given up one by one until they fit. Gives how many data blocks they write, or why they
+/// don't fit.
+fn free_room<M: Meta>(
+    meta: &mut M,
+    blocks: &mut Blocks,
+    stripped: &mut StripItem,
+    limits: Limits,
+    changes: &[Change],
+) -> Given<Result<u32, Reply>>
+    requires files { AreFiles limits (M.table meta.old) blocks.old }
+    requires few { length changes.now ≤ 262146 }
+    requires stripped { IsStrippedTo (M.table meta.old) stripped.old }
+    ensures without { StandsWithout result.count (M.table meta.old) (M.table meta.new) }
+    ensures given { (store : Store) (mounts : Mounts) (call : Call) → IsPlan (M.table meta.old) call changes.now →
+        let w = world_on store mounts (M.table meta.old) in
+        let left = world_on store mounts (M.table meta.new) in
+        changing w (changed_by w call) ≡ given_before result.count (changing left (changed_by left call)) }
+    ensures files { AreFiles limits (M.table meta.new) blocks.new }
+    ensures busy { KeepsBusy blocks.old blocks.new }
+    ensures fits { IfOk result.answer (HasRoom (M.table meta.new) changes.now) }
+    ensures lack { IfErr result.answer (λ reply. IsLacking (M.table meta.new) changes.now reply × (pick_of (M.table meta.new) ≡ None)) }
+    ensures stripped { IsStrippedTo (M.table meta.new) stripped.new }
+{
+    let mut count = 0;
+    let mut answer = room_left(meta, blocks, stripped, limits, changes);
+    while answer.is_err() && give_up_next(meta, stripped) {
+        count += 1;
+        answer = room_left(meta, blocks, stripped, limits, changes);
+    }
+    Given { count, answer }
+}
+
+/// Makes room for changes. Gives how many data blocks they write, or why they don't fit.
+pub(crate) fn make_room<M: Meta>(
+    meta: &mut M,
+    blocks: &mut Blocks,
+    stripped: &mut StripItem,
+    limits: Limits,
+    changes: &[Change],
+) -> Given<Result<u32, Reply>>
+    requires files { AreFiles limits (M.table meta.old) blocks.old }
+    requires few { length changes.now ≤ 262146 }
+    requires stripped { IsStrippedTo (M.table meta.old) stripped.old }
+    ensures without { StandsWithout result.count (M.table meta.old) (M.table meta.new) }
+    ensures given { (store : Store) (mounts : Mounts) (call : Call) → IsPlan (M.table meta.old) call changes.now →
+        let w = world_on store mounts (M.table meta.old) in
+        let left = world_on store mounts (M.table meta.new) in
+        changing w (changed_by w call) ≡ given_before result.count (changing left (changed_by left call)) }
+    ensures files { AreFiles limits (M.table meta.new) blocks.new }
+    ensures busy { KeepsBusy blocks.old blocks.new }
+    ensures fits { IfOk result.answer (HasRoom (M.table meta.new) changes.now) }
+    ensures lack { IfErr result.answer (λ reply. IsLacking (M.table meta.new) changes.now reply × (pick_of (M.table meta.new) ≡ None)) }
+    ensures stripped { IsStrippedTo (M.table meta.new) stripped.new }
+{
+    let at_once = cost(meta, changes);
+    if fits(meta, blocks, &at_once) {
+        return Given::none(Ok(at_once.blocks));
+    }
+    free_room(meta, blocks, stripped, limits, changes)
 }

@@ -2,7 +2,7 @@ ghost use Rattle.std.specs.Prelude.{◌≡◌, ◌≤◌, ◌<◌, ◌+◌, true
 ghost use Rattle.ck_nodata.specs.StripItem.{unstripped_count, IsStrippedTo};
 ghost use Rattle.ck_files.specs.Allocated.{KeepsBusy, IsAllocated};
 ghost use Rattle.ck_files.specs.Drained.{IsOver};
-ghost use Rattle.ck_files.specs.Plain.{IsOurs};
+ghost use Rattle.ck_files.specs.Files.{IsOurs};
 ghost use Rattle.ck_files.specs.Worlds.{StandAlike};
 
 use crate::changes::give_up;

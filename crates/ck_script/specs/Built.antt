@@ -1,14 +1,12 @@
 -- What is built of the grammar today. Every other line is refused.
-use Rattle.std.specs.Prelude.{Bool, true, false, not}
+use Rattle.std.specs.Prelude.{Bool, true, false}
 use Rattle.ck_model.specs.declared.call.Call.{Call}
-use Rattle.ck_model.specs.declared.call.Call.TheVariants.{Create, Removable, Restore, Backup, Full}
+use Rattle.ck_model.specs.declared.call.Call.TheVariants.{Restore, Backup, Full}
 use Rattle.ck_script.specs.declared.form.Form.{Form}
 use Rattle.ck_script.specs.declared.form.Form.TheVariants.{Called, Turned}
 
--- all calls but removable, restore, backup, full and create of a removable checkpoint
+-- all calls but restore, backup and full
 abbrev pub is_built_call : Call → Bool
-is_built_call (Create name nodata removable) = not removable
-is_built_call (Removable name on) = false
 is_built_call (Restore name) = false
 is_built_call (Backup letter later) = false
 is_built_call (Full letter) = false

@@ -48,9 +48,7 @@ fn is_built_call(call: &Call) -> bool
     ensures { result ≡ built_call call.now }
 {
     match call {
-        Call::Create(_, _, removable) => !*removable,
-        Call::Removable(_, _) | Call::Restore(_) => false,
-        Call::Backup(_, _) | Call::Full(_) => false,
+        Call::Restore(_) | Call::Backup(_, _) | Call::Full(_) => false,
         _ => true,
     }
 }

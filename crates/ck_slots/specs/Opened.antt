@@ -1,13 +1,11 @@
 -- What opening a table in a region of a device finds.
-use Rattle.std.specs.Prelude.{◌≡◌, ◌+◌, ◌/◌, ◌%◌, ⊤, ℕ, length, true, false, None, Some, IsTrue}
+use Rattle.std.specs.Prelude.{◌≡◌, ◌+◌, ◌/◌, ◌%◌, ⊤, ℕ, length, None, Some, IsTrue}
 use Rattle.ck_disk.specs.Disk.{Meaning, Rose}
 use Rattle.ck_log.specs.Layout.{Layout, table_blocks, area_at}
 use Rattle.ck_log.specs.Images.{area_of}
 use Rattle.ck_model.specs.Table.{Table}
 use Rattle.ck_area.specs.Area.{Area, Blocks, AreSlots, table_of}
-use Rattle.ck_area.specs.Damage.{damage, is_unbuilt, is_unbuilt_form}
-use Rattle.ck_model.specs.declared.checkpoint.Fileset.{Fileset}
-use Rattle.std.specs.FinMap as map
+use Rattle.ck_area.specs.Damage.{damage}
 use Rattle.ck_slots.specs.declared.opened.OpenSlots.{OpenSlots}
 use Rattle.ck_slots.specs.declared.opened.OpenSlots.TheVariants as open_slots
 
@@ -18,30 +16,23 @@ pub record AreReadFrom (layout : Layout) (m : Meaning) (area : Area) : Type 0 wh
   pub slots : AreSlots blocks area
   pub told : IsTrue m.tells → blocks ≡ area_of layout m.shows
 
--- no checkpoint of the table is of a form that isn't built yet
-abbrev pub IsBuilt : Table → Type 0
-IsBuilt t = (id : ℕ) (fileset : Fileset) → map.get t.filesets id ≡ Some fileset → is_unbuilt_form fileset ≡ false
-
--- the region's area has this table, and no slot that breaks a rule or isn't built yet
+-- the region's area has this table, and no slot that breaks a rule
 pub record IsOpened (layout : Layout) (m : Meaning) (t : Table) : Type 0 where
   pub area : Area
   pub slots : AreSlots (area_of layout m.shows) area
-  pub built : is_unbuilt area ≡ false
   pub undamaged : damage layout.blocks layout.records area ≡ None
   pub table : t ≡ table_of layout.blocks layout.records area
 
 -- what these slots are refused for, if it isn't a fault
 abbrev pub IsRefusal : Layout → Area → OpenSlots → Type 0
-IsRefusal layout area (open_slots.BadFormat version) = (version ≡ 0) × (is_unbuilt area ≡ true)
 IsRefusal layout area (open_slots.Damaged block place) =
-    (is_unbuilt area ≡ false) × (slot : ℕ) × (damage layout.blocks layout.records area ≡ Some slot)
+    (slot : ℕ) × (damage layout.blocks layout.records area ≡ Some slot)
     × (block ≡ area_at layout.records layout.second + slot / 32) × (place ≡ slot % 32)
 IsRefusal layout area open_slots.ReadFault = ⊥
 IsRefusal layout area open_slots.NoMemory = ⊤
 
 -- a read failed, or memory was refused
 abbrev pub IsReadingFault : Meaning → Meaning → OpenSlots → Type 0
-IsReadingFault old new (open_slots.BadFormat version) = ⊥
 IsReadingFault old new (open_slots.Damaged block place) = ⊥
 IsReadingFault old new open_slots.ReadFault = Rose old.read_faults new.read_faults
 IsReadingFault old new open_slots.NoMemory = ⊤
@@ -52,7 +43,6 @@ IsRefused layout m fault = IsTrue m.tells → (area : Area) × AreSlots (area_of
 
 -- the area isn't one that is opened, a read failed, or memory was refused
 abbrev pub IsOpenFault : Layout → Meaning → Meaning → OpenSlots → Type 0
-IsOpenFault layout old new (open_slots.BadFormat version) = IsRefused layout old (open_slots.BadFormat version)
 IsOpenFault layout old new (open_slots.Damaged block place) = IsRefused layout old (open_slots.Damaged block place)
 IsOpenFault layout old new open_slots.ReadFault = Rose old.read_faults new.read_faults
 IsOpenFault layout old new open_slots.NoMemory = ⊤

@@ -1,11 +1,11 @@
 // The slots of a region's table: read, and refused or not.
-ghost use Rattle.std.specs.Prelude.{◌≡◌, ◌≤◌, ◌*◌, false, None, IfOk, IfErr, OnOk, length};
+ghost use Rattle.std.specs.Prelude.{◌≡◌, ◌≤◌, ◌*◌, None, IfOk, IfErr, OnOk, length};
 ghost use Rattle.ck_log.specs.Layout.{table_blocks, size_of};
 ghost use Rattle.ck_disk.specs.Runs.{OnlyReads};
-ghost use Rattle.ck_area.specs.Damage.{damage, is_unbuilt};
+ghost use Rattle.ck_area.specs.Damage.{damage};
 ghost use Rattle.ck_slots.specs.Opened.{AreReadFrom, IsRefusal, IsReadingFault};
 
-use ck_area::{first_damage, is_unbuilt, read_block};
+use ck_area::{first_damage, read_block};
 use ck_disk::Disk;
 use ck_log::Region;
 use ck_model::NoMemory;
@@ -18,9 +18,6 @@ const SLOTS: u32 = 32;
 /// Why no table was opened in a region.
 #[derive(Clone, Copy, Debug, PartialEq, Eq)]
 pub enum OpenSlots {
-    /// A checkpoint is gone, keeps no data or is removable, which this version doesn't read. The
-    /// number is that of the format.
-    BadFormat(u32),
     /// The lowest slot that breaks a rule: the device's block, and the place in it, from 0.
     Damaged { block: u32, slot: u32 },
     /// A read failed.
@@ -75,14 +72,10 @@ pub fn read_slots<D: Disk>(
 /// Whether a table may be built of these slots: the error says why not.
 pub fn check_slots(alloc: Global, region: &Region, area: &[Option<Record>]) -> Result<(), OpenSlots>
     requires { length area.now ≡ 32 * table_blocks region.now.records }
-    ensures built { OnOk result (is_unbuilt area.now ≡ false) }
     ensures undamaged { OnOk result
         (damage region.now.blocks region.now.records area.now ≡ None) }
     ensures refused { IfErr result (IsRefusal region.now area.now) }
 {
-    if is_unbuilt(area) {
-        return Err(OpenSlots::BadFormat(0));
-    }
     match first_damage(alloc, region.blocks(), region.records(), area)? {
         Some(slot) => Err(OpenSlots::Damaged {
             block: region.area() + slot / SLOTS,

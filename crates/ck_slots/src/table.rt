@@ -15,7 +15,7 @@ ghost use Rattle.ck_area.specs.Damage.{damage};
 ghost use Rattle.ck_slots.specs.Maps.{AreRecords};
 ghost use Rattle.ck_slots.specs.Committed.{Commits, IsCommitFault};
 ghost use Rattle.ck_slots.specs.Formatted.{StandsForEmpty};
-ghost use Rattle.ck_slots.specs.Opened.{IsBuilt, IsOpened, IsOpenFault};
+ghost use Rattle.ck_slots.specs.Opened.{IsOpened, IsOpenFault};
 ghost use Rattle.ck_slots.specs.Order.{numbers_in};
 ghost use Rattle.ck_slots.specs.Lawful.{table_of, IsTable-prop};
 ghost use Rattle.ck_slots.specs.Written.{slots_of};
@@ -94,7 +94,6 @@ impl Slots {
         ensures sizes { IfOk result
             (λ slots. ((table_in slots).blocks ≡ region.now.blocks)
             × ((table_in slots).records ≡ region.now.records)) }
-        ensures built { IfOk result (λ slots. IsBuilt (table_in slots)) }
         ensures refused { IfErr result
             (IsOpenFault region.now (D.means disk.old) (D.means disk.new)) }
         ensures device { OnlyReads (D.means disk.old) (D.means disk.new) }

@@ -9,6 +9,7 @@ ghost use Rattle.ck_model.specs.History.{CallsBy, numbers_of, is_write_fault, is
 ghost use Rattle.ck_files.specs.Built.{IsBuilt};
 ghost use Rattle.ck_files.specs.Conversion.{Converts};
 ghost use Rattle.ck_files.specs.Drained.{IsDrained, IsStepped};
+ghost use Rattle.ck_files.specs.Flag.{Flags};
 ghost use Rattle.ck_files.specs.Freeze.{Freezes};
 ghost use Rattle.ck_files.specs.Removal.{Removes};
 ghost use Rattle.ck_disk.specs.Runs.{Runs};
@@ -192,11 +193,12 @@ impl<D: Disk> Volume<D> {
         // A call goes on behind its entry only where it was done.
         ensures done { OnEntry progress.old result progress.new (OnMore result ((newest (history_of self.new)).reply ≡ reply.Done)) }
 
-        // A checkpoint costs one record where one is free: nothing is copied. Its removal marks that record alone, and so does
-        // its conversion.
+        // A checkpoint costs one record where one is free: nothing is copied. Its removal marks that record alone, and so do
+        // its conversion and its being made removable.
         ensures freezes { OnEntry progress.old result progress.new (Freezes call.now at (newest (history_of self.new)).reply (table_of self.old) (table_of self.new)) }
         ensures removes { OnEntry progress.old result progress.new (Removes call.now (newest (history_of self.new)).reply (table_of self.old) (table_of self.new)) }
         ensures converts { OnEntry progress.old result progress.new (ConvertsBy call.now (newest (history_of self.new)).reply (table_of self.old) (table_of self.new) result progress.new) }
+        ensures flags { OnEntry progress.old result progress.new (Flags call.now (newest (history_of self.new)).reply (table_of self.old) (table_of self.new)) }
 
         // A failed write breaks it; once it is broken it says so, and leaves the device alone.
         ensures broken { OnEntry progress.old result progress.new (broken_of self.new ≡ option_or (broken_of self.old) (if is_write_fault (newest (history_of self.new)).reply then Some (length_of self.old) else None)) }
@@ -257,11 +259,12 @@ impl<D: Disk> Volume<D> {
         // Bytes of a checkpoint come with the last block that they touch, or at once where they touch none.
         ensures last { OnAnswered result (IsLastOf call.now (newest (history_of self.new)).reply (had_of progress.old + 1)) }
 
-        // A checkpoint costs one record where one is free: nothing is copied. Its removal and its conversion change that record
-        // alone.
+        // A checkpoint costs one record where one is free: nothing is copied. Its removal, its conversion and its flag change
+        // that record alone.
         ensures freezes { OnAnswered result (Freezes call.now at (newest (history_of self.new)).reply (table_of self.old) (table_of self.new)) }
         ensures removes { OnAnswered result (Removes call.now (newest (history_of self.new)).reply (table_of self.old) (table_of self.new)) }
         ensures converts { OnAnswered result (Converts call.now (newest (history_of self.new)).reply (table_of self.old) (table_of self.new)) }
+        ensures flags { OnAnswered result (Flags call.now (newest (history_of self.new)).reply (table_of self.old) (table_of self.new)) }
 
         // A failed write breaks it; once it is broken it says so, and leaves the device alone.
         ensures broken { OnAnswered result (broken_of self.new ≡ option_or (broken_of self.old) (if is_write_fault (newest (history_of self.new)).reply then Some (length_of self.old) else None)) }

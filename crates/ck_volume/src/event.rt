@@ -1,4 +1,4 @@
-ghost use Rattle.std.specs.Prelude.{◌≡◌, ◌+◌, ◌<◌, ◌≤◌, ℕ, ◌++◌, ◌∷◌, [], ◌⊎◌, false, Some, None, IsTrue, IsSome, MatchOption, if◌then◌else◌};
+ghost use Rattle.std.specs.Prelude.{◌≡◌, ◌+◌, ◌<◌, ◌≤◌, ℕ, ◌++◌, ◌∷◌, [], false, Some, None, IsTrue, IsSome, MatchOption, if◌then◌else◌};
 ghost use Rattle.std.specs.Option.{option_or};
 ghost use Rattle.ck_history.specs.History.{room_of};
 ghost use Rattle.ck_model.specs.declared.call.Call.TheVariants.{Cread, Sync};
@@ -11,6 +11,7 @@ ghost use Rattle.ck_files.specs.Built.{is_cread, IsBuilt};
 ghost use Rattle.ck_read.specs.Progress.{turns_had, IsOnWay};
 ghost use Rattle.ck_engine.specs.Engine as files;
 ghost use Rattle.ck_files.specs.Conversion.{Converts};
+ghost use Rattle.ck_files.specs.Flag.{Flags};
 ghost use Rattle.ck_files.specs.Freeze.{Freezes};
 ghost use Rattle.ck_files.specs.Removal.{Removes};
 ghost use Rattle.ck_engine.specs.Engine.{disk_of, table_of, IsWhole};
@@ -21,12 +22,13 @@ ghost use Rattle.ck_volume.specs.declared.event.Progress.TheVariants.{Fresh};
 ghost use Rattle.ck_volume.specs.declared.event.Turn.TheVariants.{Answered};
 ghost use Rattle.ck_volume.specs.Progress.{had_of, read_of, strip_of, FitsNow, FitsWorld, IsBegunFor, IsLastOf, IsNowOf, IsOfCall};
 ghost use Rattle.ck_volume.specs.Turn.{IsReading, OnAnswered, OnMore, OnRead, OnReply, OnStrip};
-ghost use Rattle.ck_volume.specs.Present.{present, history_of, length_of, broken_of, world_of, past_on, IsReady, KeepsWorld, Survives};
+ghost use Rattle.ck_volume.specs.Present.{present, history_of, length_of, broken_of, world_of, past_on, IsReady, KeepsWorld};
 
 use crate::log::Log;
 use ck_data::Fault;
 use ck_disk::Disk;
 use ck_engine::{Engine, ReadAnswer};
+use ck_files::Given;
 use ck_model::{Call, Entry, Path, Reply};
 use ck_read::ReadProgress;
 use std::alloc::Global;
@@ -72,20 +74,20 @@ impl Progress {
     }
 }
 
-fn entry_of(actor: u32, seq: u32, at: u64, reply: Reply) -> Entry
-    ensures { result ≡ record { actor = actor; seq = seq; at = at; given = 0; reply = reply } }
+fn entry_of(actor: u32, seq: u32, at: u64, given: u32, reply: Reply) -> Entry
+    ensures { result ≡ record { actor = actor; seq = seq; at = at; given = given; reply = reply } }
 {
     Entry {
         actor,
         seq,
         at,
-        given: 0,
+        given,
         reply,
     }
 }
 
-/// The reply to an actor's call at a moment, on a volume that isn't broken. A failed write breaks
-/// it. A read of a checkpoint isn't answered here.
+/// The reply to an actor's call at a moment, on a volume that isn't broken, and how many checkpoints were
+/// given up for it. A failed write breaks it. A read of a checkpoint isn't answered here.
 fn answer<D: Disk>(
     engine: &mut Engine<D>,
     log: &mut Log,
@@ -93,28 +95,30 @@ fn answer<D: Disk>(
     actor: u32,
     moment: u64,
     call: &Call,
-) -> Reply
+) -> Given<Reply>
     requires built { IsBuilt call.now }
     requires at_once { is_cread call.now ≡ false }
     requires whole { IsWhole (D.means (disk_of engine.old)) engine.old }
     requires unbroken { log.old.broken ≡ None }
-    ensures answers { IsTrue (D.means (disk_of engine.old)).tells → (texts : Texts) → Answers texts (world_of (D.means (disk_of engine.old)).shows (present engine.old log.old)) actor moment call.now result (world_of (D.means (disk_of engine.new)).shows (present engine.new log.new)) }
+    ensures answers { IsTrue (D.means (disk_of engine.old)).tells → (texts : Texts) → Answers texts (world_of (D.means (disk_of engine.old)).shows (present engine.old log.old)) actor moment call.now result.count result.answer (world_of (D.means (disk_of engine.new)).shows (present engine.new log.new)) }
     ensures ready { IsReady (D.means (disk_of engine.new)) (present engine.new log.new) }
-    ensures freezes { Freezes call.now moment result (table_of engine.old) (table_of engine.new) }
-    ensures removes { Removes call.now result (table_of engine.old) (table_of engine.new) }
-    ensures converts { Converts call.now result (table_of engine.old) (table_of engine.new) }
+    ensures freezes { Freezes call.now moment result.answer (table_of engine.old) (table_of engine.new) }
+    ensures removes { Removes call.now result.answer (table_of engine.old) (table_of engine.new) }
+    ensures converts { Converts call.now result.answer (table_of engine.old) (table_of engine.new) }
+    ensures flags { Flags call.now result.answer (table_of engine.old) (table_of engine.new) }
     ensures history { log.new.history ≡ log.old.history }
-    ensures broken { log.new.broken ≡ (if is_write_fault result then Some (length_of (present engine.old log.old)) else None) }
-    ensures not_refused { is_broken result ≡ false }
-    ensures cause { HasCause (D.means (disk_of engine.old)) (D.means (disk_of engine.new)) result }
+    ensures broken { log.new.broken ≡ (if is_write_fault result.answer then Some (length_of (present engine.old log.old)) else None) }
+    ensures not_refused { is_broken result.answer ≡ false }
+    ensures cause { HasCause (D.means (disk_of engine.old)) (D.means (disk_of engine.new)) result.answer }
     ensures runs { Runs (D.means (disk_of engine.old)) (D.means (disk_of engine.new)) }
-    ensures survives { Survives (D.means (disk_of engine.old)) (D.means (disk_of engine.new)) (present engine.old log.old) }
+    ensures survives { SurvivesOnTheWay result.count (D.means (disk_of engine.old)) (D.means (disk_of engine.new)) (present engine.old log.old) }
     ensures kept { log.new.broken ≡ None → IsTrue (D.means (disk_of engine.old)).tells → (w : World) → KeepsWorld (D.means (disk_of engine.old)) (present engine.old log.old) w
-        → KeepsWorld (D.means (disk_of engine.new)) (present engine.new log.new) w ⊎ KeepsWorld (D.means (disk_of engine.new)) (present engine.new log.new) (unmounted (world_of (D.means (disk_of engine.old)).shows (present engine.old log.old))) }
-    ensures synced { call.now ≡ Sync → is_fault result ≡ false → IsTrue (D.means (disk_of engine.old)).tells → (w : World) → KeepsWorld (D.means (disk_of engine.old)) (present engine.old log.old) w
+        → KeepsOnTheWay result.count (D.means (disk_of engine.new)) (present engine.new log.new) w (world_of (D.means (disk_of engine.old)).shows (present engine.old log.old)) }
+    ensures synced { call.now ≡ Sync → is_fault result.answer ≡ false → IsTrue (D.means (disk_of engine.old)).tells → (w : World) → KeepsWorld (D.means (disk_of engine.old)) (present engine.old log.old) w
         → KeepsWorld (D.means (disk_of engine.new)) (present engine.new log.new) (unmounted (world_of (D.means (disk_of engine.new)).shows (present engine.new log.new))) }
 {
-    match engine.answer(alloc, actor, moment, call) {
+    let Given { count, answer } = engine.answer(alloc, actor, moment, call);
+    let answer = match answer {
         Ok(reply) => reply,
         Err(Fault::WriteFault) => {
             log.broken = Some(log.history.length());
@@ -122,7 +126,8 @@ fn answer<D: Disk>(
         }
         Err(Fault::ReadFault) => Reply::ReadFault,
         Err(Fault::NoMemory) => Reply::NoMemory,
-    }
+    };
+    Given { count, answer }
 }
 
 /// One event of an actor's read of a mounted checkpoint, on a volume that isn't broken.
@@ -140,7 +145,7 @@ fn read<D: Disk>(
     requires limit { at ≤ file_limit }
     requires begun { IsBegunFor (Cread letter path.now at len) progress }
     requires fits { IsTrue (D.means (disk_of engine.old)).tells → FitsWorld (files.world_of (D.means (disk_of engine.old)).shows engine.old) actor (Cread letter path.now at len) progress }
-    ensures answers { OnReply result (λ reply. IsTrue (D.means (disk_of engine.old)).tells → (texts : Texts) (moment : ℕ) → Answers texts (files.world_of (D.means (disk_of engine.old)).shows engine.old) actor moment (Cread letter path.now at len) reply (files.world_of (D.means (disk_of engine.new)).shows engine.new)) }
+    ensures answers { OnReply result (λ reply. IsTrue (D.means (disk_of engine.old)).tells → (texts : Texts) (moment : ℕ) → Answers texts (files.world_of (D.means (disk_of engine.old)).shows engine.old) actor moment (Cread letter path.now at len) 0 reply (files.world_of (D.means (disk_of engine.new)).shows engine.new)) }
     ensures no_write { OnReply result (λ reply. is_write_fault reply ≡ false) }
     ensures not_refused { OnReply result (λ reply. is_broken reply ≡ false) }
     ensures last { OnReply result (λ reply. IsLastOf (Cread letter path.now at len) reply (had_of progress + 1)) }
@@ -159,7 +164,8 @@ fn read<D: Disk>(
     }
 }
 
-/// One event of an actor's call at a moment, on a volume that isn't broken.
+/// One event of an actor's call at a moment, on a volume that isn't broken, and how many checkpoints were given
+/// up for it.
 fn one_event<D: Disk>(
     engine: &mut Engine<D>,
     log: &mut Log,
@@ -168,39 +174,46 @@ fn one_event<D: Disk>(
     moment: u64,
     call: &Call,
     progress: Progress,
-) -> ReadAnswer
+) -> Given<ReadAnswer>
     requires built { IsBuilt call.now }
     requires whole { IsWhole (D.means (disk_of engine.old)) engine.old }
     requires unbroken { log.old.broken ≡ None }
     requires begun { IsBegunFor call.now progress }
     requires fits { IsTrue (D.means (disk_of engine.old)).tells → FitsWorld (world_of (D.means (disk_of engine.old)).shows (present engine.old log.old)) actor call.now progress }
-    ensures answers { OnReply result (λ reply. IsTrue (D.means (disk_of engine.old)).tells → (texts : Texts) → Answers texts (world_of (D.means (disk_of engine.old)).shows (present engine.old log.old)) actor moment call.now reply (world_of (D.means (disk_of engine.new)).shows (present engine.new log.new))) }
+    ensures answers { OnReply result.answer (λ reply. IsTrue (D.means (disk_of engine.old)).tells → (texts : Texts) → Answers texts (world_of (D.means (disk_of engine.old)).shows (present engine.old log.old)) actor moment call.now result.count reply (world_of (D.means (disk_of engine.new)).shows (present engine.new log.new))) }
     ensures ready { IsReady (D.means (disk_of engine.new)) (present engine.new log.new) }
-    ensures freezes { OnReply result (λ reply. Freezes call.now moment reply (table_of engine.old) (table_of engine.new)) }
-    ensures removes { OnReply result (λ reply. Removes call.now reply (table_of engine.old) (table_of engine.new)) }
-    ensures converts { OnReply result (λ reply. Converts call.now reply (table_of engine.old) (table_of engine.new)) }
+    ensures freezes { OnReply result.answer (λ reply. Freezes call.now moment reply (table_of engine.old) (table_of engine.new)) }
+    ensures removes { OnReply result.answer (λ reply. Removes call.now reply (table_of engine.old) (table_of engine.new)) }
+    ensures converts { OnReply result.answer (λ reply. Converts call.now reply (table_of engine.old) (table_of engine.new)) }
+    ensures flags { OnReply result.answer (λ reply. Flags call.now reply (table_of engine.old) (table_of engine.new)) }
     ensures history { log.new.history ≡ log.old.history }
-    ensures broken { OnReply result (λ reply. log.new.broken ≡ (if is_write_fault reply then Some (length_of (present engine.old log.old)) else None)) }
-    ensures not_refused { OnReply result (λ reply. is_broken reply ≡ false) }
-    ensures last { OnReply result (λ reply. IsLastOf call.now reply (had_of progress + 1)) }
-    ensures cause { OnReply result (HasCause (D.means (disk_of engine.old)) (D.means (disk_of engine.new))) }
+    ensures broken { OnReply result.answer (λ reply. log.new.broken ≡ (if is_write_fault reply then Some (length_of (present engine.old log.old)) else None)) }
+    ensures not_refused { OnReply result.answer (λ reply. is_broken reply ≡ false) }
+    ensures last { OnReply result.answer (λ reply. IsLastOf call.now reply (had_of progress + 1)) }
+    ensures cause { OnReply result.answer (HasCause (D.means (disk_of engine.old)) (D.means (disk_of engine.new))) }
     ensures runs { Runs (D.means (disk_of engine.old)) (D.means (disk_of engine.new)) }
-    ensures survives { Survives (D.means (disk_of engine.old)) (D.means (disk_of engine.new)) (present engine.old log.old) }
+    ensures survives { SurvivesOnTheWay result.count (D.means (disk_of engine.old)) (D.means (disk_of engine.new)) (present engine.old log.old) }
     ensures kept { log.new.broken ≡ None → IsTrue (D.means (disk_of engine.old)).tells → (w : World) → KeepsWorld (D.means (disk_of engine.old)) (present engine.old log.old) w
-        → KeepsWorld (D.means (disk_of engine.new)) (present engine.new log.new) w ⊎ KeepsWorld (D.means (disk_of engine.new)) (present engine.new log.new) (unmounted (world_of (D.means (disk_of engine.old)).shows (present engine.old log.old))) }
-    ensures synced { OnReply result (λ reply. call.now ≡ Sync → is_fault reply ≡ false → IsTrue (D.means (disk_of engine.old)).tells → (w : World) → KeepsWorld (D.means (disk_of engine.old)) (present engine.old log.old) w
+        → KeepsOnTheWay result.count (D.means (disk_of engine.new)) (present engine.new log.new) w (world_of (D.means (disk_of engine.old)).shows (present engine.old log.old)) }
+    ensures synced { OnReply result.answer (λ reply. call.now ≡ Sync → is_fault reply ≡ false → IsTrue (D.means (disk_of engine.old)).tells → (w : World) → KeepsWorld (D.means (disk_of engine.old)) (present engine.old log.old) w
         → KeepsWorld (D.means (disk_of engine.new)) (present engine.new log.new) (unmounted (world_of (D.means (disk_of engine.new)).shows (present engine.new log.new)))) }
-    ensures log { OnRead result (λ read. log.new ≡ log.old) }
-    ensures reading { OnRead result (λ read. IsReading (D.means (disk_of engine.old)) (D.means (disk_of engine.new)) (present engine.old log.old) (present engine.new log.old)) }
-    ensures begun { OnRead result (IsOfCall call.now) }
-    ensures turns { OnRead result (λ read. turns_had read ≡ had_of progress + 1) }
-    ensures fits { OnRead result (λ read. IsTrue (D.means (disk_of engine.old)).tells → IsNowOf (world_of (D.means (disk_of engine.old)).shows (present engine.old log.old)) actor call.now read) }
+    ensures log { OnRead result.answer (λ read. log.new ≡ log.old) }
+    ensures reading { OnRead result.answer (λ read. IsReading (D.means (disk_of engine.old)) (D.means (disk_of engine.new)) (present engine.old log.old) (present engine.new log.old)) }
+    ensures begun { OnRead result.answer (IsOfCall call.now) }
+    ensures turns { OnRead result.answer (λ read. turns_had read ≡ had_of progress + 1) }
+    ensures fits { OnRead result.answer (λ read. IsTrue (D.means (disk_of engine.old)).tells → IsNowOf (world_of (D.means (disk_of engine.old)).shows (present engine.old log.old)) actor call.now read) }
 {
     match call {
-        Call::Cread(letter, path, at, len) => {
-            read(engine, alloc, actor, *letter, path, *at, *len, progress)
+        Call::Cread(letter, path, at, len) => Given::none(read(
+            engine, alloc, actor, *letter, path, *at, *len, progress,
+        )),
+        _ => {
+            let Given { count, answer } = answer(engine, log, alloc, actor, moment, call);
+            Given {
+                count,
+                answer: ReadAnswer::Replied(answer),
+            }
         }
-        _ => ReadAnswer::Replied(answer(engine, log, alloc, actor, moment, call)),
     }
 }
 
@@ -242,10 +255,11 @@ pub(crate) fn happen<D: Disk>(
         → Follows texts calls (past_on (D.means (disk_of engine.old)).shows (present engine.old log.old)) (newest (history_of (present engine.new log.new))) (past_on (D.means (disk_of engine.new)).shows (present engine.new log.new))) }
     ensures ready { IsReady (D.means (disk_of engine.new)) (present engine.new log.new) }
 
-    // A checkpoint costs one record where one is free: nothing is copied. Its removal and its conversion change that record alone.
+    // A checkpoint costs one record where one is free: nothing is copied. Its removal, its conversion and its flag change that record alone.
     ensures freezes { OnAnswered result (Freezes call.now at (newest (history_of (present engine.new log.new))).reply (table_of engine.old) (table_of engine.new)) }
     ensures removes { OnAnswered result (Removes call.now (newest (history_of (present engine.new log.new))).reply (table_of engine.old) (table_of engine.new)) }
     ensures converts { OnAnswered result (Converts call.now (newest (history_of (present engine.new log.new))).reply (table_of engine.old) (table_of engine.new)) }
+    ensures flags { OnAnswered result (Flags call.now (newest (history_of (present engine.new log.new))).reply (table_of engine.old) (table_of engine.new)) }
 
     // A failed write breaks the volume; once it is broken it says so, and leaves the device alone.
     ensures broken { OnAnswered result (broken_of (present engine.new log.new) ≡ option_or (broken_of (present engine.old log.old)) (if is_write_fault (newest (history_of (present engine.new log.new))).reply then Some (length_of (present engine.old log.old)) else None)) }
@@ -267,16 +281,17 @@ pub(crate) fn happen<D: Disk>(
     let begun = std::mem::replace(progress, Progress::Fresh);
     if let Some(entry) = log.broken {
         log.history
-            .put(entry_of(actor, seq, at, Reply::Broken(entry)));
+            .put(entry_of(actor, seq, at, 0, Reply::Broken(entry)));
         return Turn::Answered;
     }
-    match one_event(engine, log, alloc, actor, at, call, begun) {
+    let Given { count, answer } = one_event(engine, log, alloc, actor, at, call, begun);
+    match answer {
         ReadAnswer::More(read) => {
             *progress = Progress::Read(read);
             Turn::More
         }
         ReadAnswer::Replied(reply) => {
-            log.history.put(entry_of(actor, seq, at, reply));
+            log.history.put(entry_of(actor, seq, at, count, reply));
             Turn::Answered
         }
     }

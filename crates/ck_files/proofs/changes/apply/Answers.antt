@@ -16,7 +16,6 @@ returns-clause-ours g c = record {
   lawful = g.met.M.Meta.lawful c.change-freed.new.meta;
   sized = g.met.M.Meta.sized c.change-freed.new.meta;
   sound = c.change-freed.ensures.changed.sound;
-  plain = λ id fileset is. c.requires.ours.plain id fileset (ap (λ m. map.get m id) (sym c.change-freed.ensures.changed.filesets) ∙ is);
 }
 
 pub returns-clause-allocated : goal.returns-clause-allocated

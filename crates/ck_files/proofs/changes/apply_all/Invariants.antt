@@ -1,6 +1,6 @@
 use Rattle.std.proofs.Common.{◌≡◌, ◌≤◌, drop, length}
 use Rattle.ck_files.specs.Allocated.{KeepsBusy}
-use Rattle.ck_files.specs.Plain.{IsOurs}
+use Rattle.ck_files.specs.Files.{IsOurs}
 use Rattle.ck_push.specs.Changes.{changed_all}
 use Rattle.ck_files.proofs.MadeLemmas.{MayMake}
 use Rattle.ck_files.proofs.changes.apply_all.Given as goal

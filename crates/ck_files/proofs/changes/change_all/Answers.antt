@@ -16,7 +16,6 @@ apply_all-requires-clause-ours g c =
       lawful = g.met.M.Meta.lawful c.set_counters.new.self;
       sized = g.met.M.Meta.sized c.set_counters.new.self;
       sound = subst IsSound (sym c.set_counters.ensures) (raised_sound t c.args.next t.blocks c.requires.ours.sound c.requires.raised);
-      plain = λ id fileset is. c.requires.ours.plain id fileset (ap (λ (x : Table). map.get x.filesets id) (sym c.set_counters.ensures) ∙ is);
     }
 
 pub apply_all-requires-clause-room : goal.apply_all-requires-clause-room

@@ -4,9 +4,7 @@ use Rattle.ck_table.proofs.WorldLaws.{converted-none, named_live}
 use Rattle.ck_chain.proofs.OrderlyLaws.{positive_id}
 use Rattle.ck_chain.proofs.ReadLaws.{live_stands}
 use Rattle.ck_nodata.specs.StripItem.{IsStrippedTo}
-use Rattle.ck_files.specs.Plain.{IsPlain}
 use Rattle.ck_files.proofs.CheckpointLemmas.{converted-to, place_nodata}
-use Rattle.ck_files.proofs.PlainLemmas.{plain_changed}
 use Rattle.ck_files.proofs.conversion.convert.Goals as goal
 
 pub returns-in_default-clause-reply : goal.returns-in_default-clause-reply
@@ -28,7 +26,6 @@ returns-then-keeps-clause-ours g c = record {
   lawful = g.met.M.Meta.lawful c.set_nodata.new.meta;
   sized = g.met.M.Meta.sized c.set_nodata.new.meta;
   sound = c.set_nodata.ensures.sound;
-  plain = subst IsPlain (sym c.set_nodata.ensures.table) (plain_changed (g.M.Meta.table c.args.meta.now) c.in-Some.id as_nodata (λ f. refl) c.requires.ours.plain);
 }
 
 pub returns-else-keeps-clause-ours : goal.returns-else-keeps-clause-ours
@@ -36,7 +33,6 @@ returns-else-keeps-clause-ours g c = record {
   lawful = g.met.M.Meta.lawful c.set_nodata.new.meta;
   sized = g.met.M.Meta.sized c.set_nodata.new.meta;
   sound = c.set_nodata.ensures.sound;
-  plain = subst IsPlain (sym c.set_nodata.ensures.table) (plain_changed (g.M.Meta.table c.args.meta.now) c.in-Some.id as_nodata (λ f. refl) c.requires.ours.plain);
 }
 
 pub returns-then-keeps-clause-stripped : goal.returns-then-keeps-clause-stripped

@@ -11,10 +11,8 @@ use Rattle.ck_table.proofs.AddedLaws.{world-with_added}
 use Rattle.ck_nodata.specs.StripItem.{IsStrippedTo}
 use Rattle.ck_nodata.proofs.PlaceLaws.{stripped_added}
 use Rattle.ck_files.specs.Freeze.{refusal_of, refused_or}
-use Rattle.ck_files.specs.Plain.{IsPlain}
 use Rattle.ck_files.specs.Room.{answered_with}
 use Rattle.ck_files.proofs.CreateLemmas.{created-refused, created-lack, created-fits}
-use Rattle.ck_files.proofs.PlainLemmas.{plain_with}
 use Rattle.ck_files.proofs.freeze.add_checkpoint.Goals as goal
 
 pub returns-then-spare-eq0-clause-reply : goal.returns-then-spare-eq0-clause-reply
@@ -43,7 +41,6 @@ returns-in-Ok-clause-ours g c =
       lawful = g.met.M.Meta.lawful c.add.new.meta;
       sized = g.met.M.Meta.sized c.add.new.meta;
       sound = c.in-Ok.ensures.sound;
-      plain = subst IsPlain (sym c.in-Ok.ensures.ok) (plain_with t t.counters.id (Some (new_fileset c.args.name.now c.kind_of.result false c.args.at)) c.requires.ours.plain (record { stays = refl }));
     }
 
 pub returns-in-Ok-clause-stripped : goal.returns-in-Ok-clause-stripped

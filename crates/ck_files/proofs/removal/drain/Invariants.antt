@@ -2,7 +2,7 @@ use Rattle.std.proofs.Common.{◌+◌}
 use Rattle.ck_remove.specs.Gone.{left_of}
 use Rattle.ck_nodata.specs.StripItem.{unstripped_count, IsStrippedTo}
 use Rattle.ck_files.specs.Allocated.{KeepsBusy, IsAllocated}
-use Rattle.ck_files.specs.Plain.{IsOurs}
+use Rattle.ck_files.specs.Files.{IsOurs}
 use Rattle.ck_files.specs.Worlds.{StandAlike}
 use Rattle.ck_files.proofs.removal.drain.Given as goal
 

@@ -5,10 +5,8 @@ use Rattle.ck_model.specs.TableWorld.{world_on}
 use Rattle.ck_table.specs.Gone.{as_gone}
 use Rattle.ck_table.proofs.WorldLaws.{dropped-is, dropped-none, named_live}
 use Rattle.ck_nodata.specs.StripItem.{IsStrippedTo}
-use Rattle.ck_files.specs.Plain.{IsPlain}
 use Rattle.ck_files.specs.Room.{answered_with}
 use Rattle.ck_files.proofs.CheckpointLemmas.{place_gone}
-use Rattle.ck_files.proofs.PlainLemmas.{plain_changed}
 use Rattle.ck_files.proofs.removal.remove.Goals as goal
 
 pub mark_gone-requires-clause-live : goal.mark_gone-requires-clause-live
@@ -25,7 +23,6 @@ returns-in-Some-clause-ours g c = record {
   lawful = g.met.M.Meta.lawful c.mark_gone.new.meta;
   sized = g.met.M.Meta.sized c.mark_gone.new.meta;
   sound = c.mark_gone.ensures.sound;
-  plain = subst IsPlain (sym c.mark_gone.ensures.table) (plain_changed (g.M.Meta.table c.args.meta.now) c.in-Some.id as_gone (λ f. refl) c.requires.ours.plain);
 }
 
 pub returns-in-Some-clause-stripped : goal.returns-in-Some-clause-stripped

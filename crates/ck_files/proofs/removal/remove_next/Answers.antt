@@ -1,4 +1,3 @@
-use Rattle.ck_files.proofs.PlainLemmas.{plain_unseen}
 use Rattle.ck_files.proofs.UnseenLemmas.{alike_unseen}
 use Rattle.ck_files.proofs.UseLemmas.{allocated_unseen, busy_after, freed_unseen}
 use Rattle.ck_nodata.proofs.HeldLaws.{no_more_left}
@@ -18,7 +17,6 @@ returns-clause-ours g c = record {
   lawful = g.met.M.Meta.lawful c.step-freed.new.meta;
   sized = g.met.M.Meta.sized c.step-freed.new.meta;
   sound = c.step-freed.ensures.sound;
-  plain = plain_unseen (g.M.Meta.table c.args.meta.now) (g.M.Meta.table c.step-freed.new.meta) c.requires.ours.plain c.step-freed.ensures.unseen;
 }
 
 pub returns-clause-allocated : goal.returns-clause-allocated

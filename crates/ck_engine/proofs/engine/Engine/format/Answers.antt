@@ -1,6 +1,6 @@
 use Rattle.ck_log.specs.FirstTable.{new_layout, FormatLeaves}
 use Rattle.ck_slots.specs.Slots.{table_in}
-use Rattle.ck_files.specs.Plain.{IsOurs}
+use Rattle.ck_files.specs.Files.{IsOurs}
 use Rattle.ck_engine.proofs.FormatLemmas.{plain_new, volume-formatted}
 use Rattle.ck_disk.proofs.RunLaws.{runs_of}
 use Rattle.ck_engine.proofs.engine.Engine.format.Goals as goal

@@ -1,11 +1,9 @@
 use Rattle.std.proofs.Common.{sym, subst, ap, ◌∙◌}
 use Rattle.ck_model.specs.Table.{Table}
 use Rattle.ck_model.specs.Rules.{IsSound}
-use Rattle.ck_area.specs.Damage.{is_unbuilt, damage}
+use Rattle.ck_area.specs.Damage.{damage}
 use Rattle.ck_area.specs.Area.{table_of as area_table}
-use Rattle.ck_area.proofs.WrittenLaws.{built_read}
 use Rattle.ck_area.proofs.TableLaws.{records_of_slots, undamaged_sound}
-use Rattle.ck_slots.specs.Opened.{IsBuilt}
 use Rattle.ck_slots.specs.Maps.{AreRecords}
 use Rattle.ck_slots.proofs.table.Slots.open.Goals as goal
 
@@ -23,10 +21,3 @@ returns-clause-sound g c =
 
 pub returns-clause-sizes : goal.returns-clause-sizes
 returns-clause-sizes g c = (ap (λ (t : Table). t.blocks) c.in_ok-slots.ensures.table, ap (λ (t : Table). t.records) c.in_ok-slots.ensures.table)
-
-pub returns-clause-built : goal.returns-clause-built
-returns-clause-built g c =
-    let region = c.args.region.now in
-    let area = c.in_ok-area.area.items in
-    let is = c.in_ok-slots.ensures.table ∙ ap (area_table region.blocks region.records) c.deref-2.ensures.value in
-    subst (λ t. IsBuilt t) (sym is) (built_read region.blocks region.records area (ap is_unbuilt (sym c.deref.ensures.value) ∙ c.in_ok-check_slots.ensures.built))
