@@ -44,6 +44,22 @@ module _ (store : Store) (mounts : Mounts) (t : Table) (lawful : IsTable t) wher
   given-none (suc given) none =
       ap (λ o. option_map_or (λ x. without_picks given (without_checkpoint (world_on store mounts t) x)) o (world_on store mounts t)) (sym (pick-is store mounts t lawful) ∙ none)
 
+-- where none is picked, none is given up
+pub given-still : (given : ℕ) (w : World) → pick w ≡ None → without_picks given w ≡ w
+given-still zero w none = refl
+given-still (suc given) w none = ap (λ o. option_map_or (λ id. without_picks given (without_checkpoint w id)) o w) none
+
+-- some picks and then more are given up together
+pub given-more : (first more : ℕ) (w : World) → without_picks (first + more) w ≡ without_picks more (without_picks first w)
+given-more zero more w = let same : 0 + more ≡ more = omega arith in ap (λ n. without_picks n w) same
+given-more (suc first) more w =
+    let same : suc first + more ≡ suc (first + more) = omega arith in
+    ap (λ n. without_picks n w) same
+    ∙ elim (pick w) as (λ o. pick w ≡ o → option_map_or (λ id. without_picks (first + more) (without_checkpoint w id)) o w ≡ without_picks more (option_map_or (λ id. without_picks first (without_checkpoint w id)) o w)) [
+      | None ↦ λ none. sym (given-still more w none)
+      | Some id ↦ λ _. given-more first more (without_checkpoint w id)
+    ] refl
+
 -- ---- room for a call
 
 abbrev pub outcome_as : Reply → ℕ → World → Outcome
