@@ -1,12 +1,18 @@
 -- Tables that stand for one world, or for that world without what was given up, one after the other.
-use Rattle.std.proofs.Common.{◌≡◌, ℕ, ◌+◌, Some, refl, sym, ap, subst, ◌∙◌}
+use Rattle.std.proofs.Common.{◌≡◌, ℕ, ◌+◌, Some, length, refl, sym, ap, subst, ◌∙◌, arith}
+use Rattle.std.specs.FinMap as map
+use Rattle.ck_model.specs.Chain.{live_ids}
 use Rattle.ck_model.specs.Space.{without_picks}
 use Rattle.ck_model.specs.Table.{Table, IsTable}
-use Rattle.ck_model.specs.TableWorld.{world_on}
-use Rattle.ck_reclaim.proofs.GivenLaws.{given-more, given-one}
+use Rattle.ck_model.specs.TableWorld.{checkpoints_on, world_on}
+use Rattle.ck_model.specs.Values.{no_store}
+use Rattle.ck_model.specs.World.{World}
+use Rattle.ck_reclaim.proofs.GivenLaws.{given-more, given-one, picked_live}
 use Rattle.ck_reclaim.specs.Removable.{pick_of}
+use Rattle.ck_table.proofs.WorldLaws.{length-with_gone}
 use Rattle.ck_table.specs.Gone.{with_gone}
 use Rattle.ck_files.specs.Picks.{IsGivenUp}
+use Rattle.ck_files.proofs.Listed.{length-is}
 use Rattle.ck_files.specs.Worlds.{StandAlike, StandsWithout}
 
 pub alike_itself : (t : Table) → StandAlike t t
@@ -37,3 +43,15 @@ gone_stands t lawful id picked = record {
 
 pub given_up_stands : (t u : Table) → IsTable t → IsGivenUp t u → StandsWithout 1 t u
 given_up_stands t u lawful given = subst (StandsWithout 1 t) (sym given.table) (gone_stands t lawful given.id given.picked)
+
+-- ---- how many checkpoints stand
+
+-- once the pick is gone and what is left to remove went, one fewer stands
+pub fewer_live : (t u v : Table) → IsTable t → IsTable v → IsGivenUp t u → StandAlike u v → length (live_ids v) + 1 ≡ length (live_ids t)
+fewer_live t u v lawful lawful_v given alike =
+    let before = length-is no_store t lawful in
+    let after = length-is no_store v lawful_v in
+    let same : length (checkpoints_on no_store v) ≡ length (checkpoints_on no_store u) = ap (λ (w : World). length w.checkpoints) (alike.worlds no_store map.empty) in
+    let gone : length (checkpoints_on no_store u) ≡ length (checkpoints_on no_store (with_gone t given.id)) = ap (λ x. length (checkpoints_on no_store x)) given.table in
+    let fewer = length-with_gone no_store t given.id (picked_live t given.id given.picked) in
+    omega (arith, before, after, same, gone, fewer)
