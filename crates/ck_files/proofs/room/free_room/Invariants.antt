@@ -1,26 +1,17 @@
-use Rattle.std.proofs.Common.{◌≡◌, ℕ, ◌+◌, ◌≤◌, IfOk, IfErr, length}
-use Rattle.ck_model.specs.declared.call.Call.{Call}
+use Rattle.std.proofs.Common.{◌+◌, ◌≤◌, IfOk, IfErr, length}
 use Rattle.ck_model.specs.Chain.{live_ids}
-use Rattle.ck_model.specs.FileCalls.{changed_by}
-use Rattle.ck_model.specs.Step.{changing}
-use Rattle.ck_model.specs.TableWorld.{world_on}
-use Rattle.ck_model.specs.Values.{Store}
-use Rattle.ck_model.specs.World.{Mounts}
 use Rattle.ck_nodata.specs.StripItem.{IsStrippedTo}
-use Rattle.ck_tree.specs.Plan.{IsPlan}
 use Rattle.ck_files.specs.Allocated.{KeepsBusy}
 use Rattle.ck_files.specs.Files.{AreFiles}
-use Rattle.ck_files.specs.Room.{given_before, HasRoom, IsLacking}
+use Rattle.ck_files.specs.Room.{HasRoom, IsLacking}
 use Rattle.ck_files.specs.Worlds.{StandsWithout}
+use Rattle.ck_files.proofs.GivenLemmas.{ComesTo}
 use Rattle.ck_files.proofs.room.free_room.Given as goal
 
 abbrev pub invariant-loop-meta : goal.invariant-loop-meta
 invariant-loop-meta g l = record {
   without : StandsWithout l.count (g.M.Meta.table l.fn.meta) (g.M.Meta.table l.meta);
-  given : (store : Store) (mounts : Mounts) (call : Call) → IsPlan (g.M.Meta.table l.fn.meta) call l.changes
-      → let w = world_on store mounts (g.M.Meta.table l.fn.meta) in
-      let left = world_on store mounts (g.M.Meta.table l.meta) in
-      changing w (changed_by w call) ≡ given_before l.count (changing left (changed_by left call));
+  given : ComesTo l.count (g.M.Meta.table l.fn.meta) (g.M.Meta.table l.meta) l.changes;
   files : AreFiles l.limits (g.M.Meta.table l.meta) l.blocks;
   busy : KeepsBusy l.fn.blocks l.blocks;
   fits : IfOk l.answer (HasRoom (g.M.Meta.table l.meta) l.changes);
