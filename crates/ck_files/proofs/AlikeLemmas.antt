@@ -28,6 +28,10 @@ without_both first more t u v one two = record {
   records = two.records ∙ one.records;
 }
 
+-- some are given up, and then none
+pub without_alike : (given : ℕ) (t u v : Table) → StandsWithout given t u → StandAlike u v → StandsWithout given t v
+without_alike given t u v without alike = let same : given + 0 ≡ given = omega arith in subst (λ n. StandsWithout n t v) same (without_both given 0 t u v without alike)
+
 pub alike_both : (t u v : Table) → StandAlike t u → StandAlike u v → StandAlike t v
 alike_both t u v first second = without_both 0 0 t u v first second
 

@@ -542,12 +542,12 @@ module _ (store : Store) (mounts : Mounts) (t : Table) (c : Call) (changes : Lis
   -- behind the limit its changes have data blocks that hold what it writes
   behind : {P : Type 0} → ((other : Store) (places : List ℕ) (blocks : ℕ) → length places ≡ write_count changes → AreDistinct places → AllByRecursion (IsPlace t blocks) places
       → t.blocks ≤ blocks → blocks ≤ 2 ^ 31 → SameNamed t store other → AreHeld (block_by w c) other (with_places changes places) → P) → P
-  behind use =
+  behind found =
       let blocks = t.blocks + write_count changes in
       let few = few_writes changes in
       let at_most = plan.few in
       let sized = ours.sized.blocks in
-      use (holding (block_by w c) store t.blocks changes) (places_from t.blocks changes) blocks (many_from t.blocks changes) (distinct_from t.blocks changes)
+      found (holding (block_by w c) store t.blocks changes) (places_from t.blocks changes) blocks (many_from t.blocks changes) (distinct_from t.blocks changes)
       (places_are t ours.sound t.blocks blocks changes (omega arith) (omega arith)) (omega arith) (omega (arith, few, at_most, sized))
       (λ block named. holding_below (block_by w c) store t.blocks changes block (below block (is-named t block named)))
       (held_from (block_by w c) store t.blocks changes)

@@ -1,6 +1,5 @@
-use Rattle.std.proofs.Common.{◌≡◌, ◌+◌, ◌≤◌, length, arith}
-use Rattle.ck_model.specs.Chain.{live_ids}
-use Rattle.ck_files.proofs.AlikeLemmas.{fewer_live, given_up_stands, without_both}
+use Rattle.std.proofs.Common.{◌+◌, sym, ◌∙◌, arith}
+use Rattle.ck_files.proofs.AlikeLemmas.{fewer_live, given_up_stands, without_alike, without_both}
 use Rattle.ck_files.proofs.GivenLemmas.{comes_alike, comes_further, refused_by}
 use Rattle.ck_files.proofs.room.free_room.Goals as goal
 
@@ -36,11 +35,11 @@ loop-meta-preserved g c =
     let stood = c.loop-meta.invariant in
     let up = c.give_up_next.ensures.given c.if-give_up_next.true in
     let next = c.room_left-answer-in-loop-meta.ensures in
-    let lack = (refused_by c.loop-meta.answer c.loop-meta-test.true stood.lack).1 in
+    let lack = (refused_by c.loop-meta.answer (sym c.is_err.ensures.value ∙ c.loop-meta-test.true) stood.lack).1 in
     let fewer = fewer_live t u v stood.files.ours.lawful next.files.ours.lawful up next.alike in
     let few = stood.few in
     record {
-      without = without_both (c.loop-meta.count + 1) 0 old u v (without_both c.loop-meta.count 1 old t u stood.without (given_up_stands t u stood.files.ours.lawful up)) next.alike;
+      without = without_alike (c.loop-meta.count + 1) old u v (without_both c.loop-meta.count 1 old t u stood.without (given_up_stands t u stood.files.ours.lawful up)) next.alike;
       given = comes_further c.loop-meta.count old t u v changes stood.without stood.given stood.files.ours lack.drained lack.full up next.alike;
       files = next.files;
       busy = λ block busy. next.busy block (stood.busy block busy);
