@@ -44,8 +44,8 @@ comes_further given old t u v changes without comes ours drained full up alike s
     let left = world_on store mounts v in
     comes store mounts call plan
     ∙ ap (given_before given) (
-      planned-given store mounts t call changes ours (plan_alike given old t without call changes plan) drained up.id up.picked full
-      ∙ ap (λ w. given_before 1 (changing w (changed_by w call))) (sym (ap (world_on store mounts) up.table) ∙ sym (alike.worlds store mounts))
+    planned-given store mounts t call changes ours (plan_alike given old t without call changes plan) drained up.id up.picked full
+    ∙ ap (λ w. given_before 1 (changing w (changed_by w call))) (sym (ap (world_on store mounts) up.table) ∙ sym (alike.worlds store mounts))
     )
     ∙ one_after given (changing left (changed_by left call))
 

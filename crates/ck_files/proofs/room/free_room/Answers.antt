@@ -22,7 +22,7 @@ loop-meta-smaller g c =
     let t = g.M.Meta.table c.loop-meta.meta in
     let v = g.M.Meta.table c.room_left-answer-in-loop-meta.new.meta in
     let fewer = fewer_live t (g.M.Meta.table c.give_up_next.new.meta) v c.loop-meta.invariant.files.ours.lawful c.room_left-answer-in-loop-meta.ensures.files.ours.lawful
-        (c.give_up_next.ensures.given c.if-give_up_next.true) c.room_left-answer-in-loop-meta.ensures.alike in
+    (c.give_up_next.ensures.given c.if-give_up_next.true) c.room_left-answer-in-loop-meta.ensures.alike in
     omega (arith, fewer)
 
 pub loop-meta-preserved : goal.loop-meta-preserved
