@@ -1,5 +1,5 @@
 -- A call's plan, while checkpoints are given up for it: what the call comes to stays what the model says.
-use Rattle.std.proofs.Common.{◌≡◌, ℕ, ◌+◌, ◌-◌, Bool, true, false, Result, Ok, Err, IfErr, List, refl, sym, ap, ◌∙◌, arith}
+use Rattle.std.proofs.Common.{◌≡◌, ℕ, ◌+◌, ◌-◌, true, false, Result, Ok, Err, IfErr, List, refl, sym, ap, ◌∙◌, arith}
 use Rattle.std.specs.Result.{is_err}
 use mathlib.Core.Bool.{false≢true}
 use Rattle.ck_model.specs.declared.call.Call.{Call}
