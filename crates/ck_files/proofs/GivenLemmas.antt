@@ -1,5 +1,5 @@
 -- A call's plan, while checkpoints are given up for it: what the call comes to stays what the model says.
-use Rattle.std.proofs.Common.{◌≡◌, ℕ, ◌+◌, ◌-◌, true, false, Result, Ok, Err, IfErr, List, refl, sym, ap, ◌∙◌, arith}
+use Rattle.std.proofs.Common.{◌≡◌, ℕ, ◌+◌, ◌-◌, true, false, Result, Ok, Err, IfErr, List, sym, ap, ◌∙◌, arith}
 use Rattle.std.specs.Result.{is_err}
 use mathlib.Core.Bool.{false≢true}
 use Rattle.ck_model.specs.declared.call.Call.{Call}
@@ -29,7 +29,7 @@ ComesTo given old new changes = (store : Store) (mounts : Mounts) (call : Call) 
 pub none_before : (outcome : Outcome) → given_before 0 outcome ≡ outcome
 none_before outcome = let same : 0 + outcome.given ≡ outcome.given = omega arith in ap (λ n. record outcome { given = n }) same
 
-one_after : (given : ℕ) (outcome : Outcome) → given_before given (given_before 1 outcome) ≡ given_before (given + 1) outcome
+pub one_after : (given : ℕ) (outcome : Outcome) → given_before given (given_before 1 outcome) ≡ given_before (given + 1) outcome
 one_after given outcome = let same : given + (1 + outcome.given) ≡ given + 1 + outcome.given = omega arith in ap (λ n. record outcome { given = n }) same
 
 pub comes_alike : (old new : Table) (changes : List Change) → StandAlike old new → ComesTo 0 old new changes

@@ -11,6 +11,7 @@ pub mod Listed
 pub mod MountLemmas
 pub mod CheckpointLemmas
 pub mod CreateLemmas
+pub mod RecordLemmas
 pub mod WorldAfter
 pub mod MadeLemmas
 pub mod NewBlocks

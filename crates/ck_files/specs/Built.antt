@@ -1,5 +1,5 @@
 -- The calls that a volume has today.
-use Rattle.std.specs.Prelude.{◌≡◌, ◌≤◌, ⊤, Bool, true, false}
+use Rattle.std.specs.Prelude.{◌≤◌, ⊤, Bool, true, false}
 use Rattle.ck_model.specs.declared.call.Call.{Call}
 use Rattle.ck_model.specs.declared.call.Call.TheVariants.{Make, Mkdir, Rm, Rmdir, Mv, Write, Fill, Trunc, Read, List as Ls, Stat, Create, Remove, Nodata, Removable, Ckpts, Mount, Umount, Cread, Clist, Info, Sync}
 use Rattle.ck_model.specs.Limits.{file_limit}

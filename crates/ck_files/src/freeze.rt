@@ -1,4 +1,4 @@
-ghost use Rattle.std.specs.Prelude.{◌≡◌, ◌<◌, ℕ, Bool, List, false, IsOk, IsSome};
+ghost use Rattle.std.specs.Prelude.{◌≡◌, ◌<◌, ℕ, Bool, List, Ok, false, IsSome};
 ghost use Rattle.ck_model.specs.CheckpointCalls.{kind_of, new_id as new_id_in};
 ghost use Rattle.ck_model.specs.declared.reply.SpaceOf.TheVariants.{Records};
 ghost use Rattle.ck_model.specs.declared.reply.Reply.TheVariants.{NoSpace};
@@ -100,10 +100,10 @@ fn free_record<M: Meta>(meta: &mut M, blocks: &mut Blocks, stripped: &mut StripI
     requires allocated { IsAllocated (M.table meta.old) blocks.old }
     requires stripped { IsStrippedTo (M.table meta.old) stripped.old }
     ensures without { StandsWithout result (M.table meta.old) (M.table meta.new) }
-    ensures given { (store : Store) (mounts : Mounts) (name : List ℕ) (nodata removable : Bool) (at : ℕ) →
+    ensures given { (store : Store) (mounts : Mounts) (name : List ℕ) (nodata removable : Bool) (at id : ℕ) →
         let w = world_on store mounts (M.table meta.old) in
         let left = world_on store mounts (M.table meta.new) in
-        IsOk (new_id_in w name) → created w name nodata removable at ≡ given_before result (created left name nodata removable at) }
+        new_id_in w name ≡ Ok id → created w name nodata removable at ≡ given_before result (created left name nodata removable at) }
     ensures ours { IsOurs (M.table meta.new) }
     ensures allocated { IsAllocated (M.table meta.new) blocks.new }
     ensures busy { KeepsBusy blocks.old blocks.new }

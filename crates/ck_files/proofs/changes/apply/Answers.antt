@@ -1,5 +1,4 @@
-use Rattle.std.proofs.Common.{inl, inr, sym, ap, ◌∙◌}
-use Rattle.std.specs.FinMap as map
+use Rattle.std.proofs.Common.{inl, inr, ap, ◌∙◌}
 use Rattle.ck_chain.specs.Named.{block_of}
 use Rattle.ck_chain.specs.Changes.{key_of, value_after}
 use Rattle.ck_files.specs.Allocated.{blocks_held}

@@ -1,5 +1,4 @@
 use Rattle.std.proofs.Common.{◌≡◌, ◌-◌, ◌≤◌, sym, ap, subst, ◌∙◌}
-use Rattle.std.specs.FinMap as map
 use Rattle.ck_model.specs.Table.{Table, spare_count}
 use Rattle.ck_model.specs.Rules.{IsSound}
 use Rattle.ck_push.specs.Growth.{gains, losses}

@@ -1,5 +1,4 @@
-use Rattle.std.proofs.Common.{true, false, refl, sym, subst, ◌∙◌}
-use Rattle.ck_table.specs.Flags.{as_nodata}
+use Rattle.std.proofs.Common.{true, false, sym, subst, ◌∙◌}
 use Rattle.ck_table.proofs.WorldLaws.{converted-none, named_live}
 use Rattle.ck_chain.proofs.OrderlyLaws.{positive_id}
 use Rattle.ck_chain.proofs.ReadLaws.{live_stands}

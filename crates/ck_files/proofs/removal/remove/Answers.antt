@@ -1,8 +1,7 @@
-use Rattle.std.proofs.Common.{refl, sym, ap, subst, ◌∙◌}
+use Rattle.std.proofs.Common.{sym, ap, subst, ◌∙◌}
 use Rattle.ck_model.specs.declared.reply.Reply.TheVariants.{Done}
 use Rattle.ck_model.specs.Step.{done}
 use Rattle.ck_model.specs.TableWorld.{world_on}
-use Rattle.ck_table.specs.Gone.{as_gone}
 use Rattle.ck_table.proofs.WorldLaws.{dropped-is, dropped-none, named_live}
 use Rattle.ck_nodata.specs.StripItem.{IsStrippedTo}
 use Rattle.ck_files.specs.Room.{answered_with}
