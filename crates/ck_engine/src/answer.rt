@@ -101,10 +101,10 @@ impl<D: Disk> Engine<D> {
             call,
         );
         match planned {
-            Ok(Given { count, answer }) => Given {
-                count,
-                answer: self.make(alloc, call, answer),
-            },
+            Ok(Given { count, answer }) => {
+                let answer = self.make(alloc, call, answer);
+                Given { count, answer }
+            }
             Err(NoMemory) => Given::none(Err(Fault::NoMemory)),
         }
     }
