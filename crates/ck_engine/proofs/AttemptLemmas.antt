@@ -1,5 +1,5 @@
 -- What calls leave of a volume and its device.
-use Rattle.std.proofs.Common.{◌≡◌, ◌≢◌, inl, inr, ℕ, ◌+◌, ◌≤◌, ◌==◌, ◌||◌, ◌⊎◌, IsTrue, false, List, [], get_or, Result, Ok, Err, OnOk, refl, sym, ap, subst, ◌∙◌, arith, get_or-set_other}
+use Rattle.std.proofs.Common.{◌≡◌, ◌≢◌, inl, inr, ℕ, ◌+◌, ◌≤◌, ◌==◌, ◌||◌, ◌⊎◌, IsTrue, false, List, [], get_or, Result, Ok, Err, OnErr, OnOk, refl, sym, ap, subst, ◌∙◌, arith, get_or-set_other}
 use Rattle.std.specs.FinMap as map
 use Rattle.std.specs.FinSet as set
 use Rattle.std.specs.Ordering.{nat_cmp}
@@ -36,6 +36,14 @@ use Rattle.ck_engine.proofs.GoesOnLemmas.{KeepsEither, either_busy, either_store
 pub on_ok_map : {A E : Type 0} (P Q : Type 0) (r : Result A E) → (P → Q) → OnOk r P → OnOk r Q
 on_ok_map P Q (Ok x) f p = f p
 on_ok_map P Q (Err e) f p = tt
+
+pub on_err_map : {A E : Type 0} (P Q : Type 0) (r : Result A E) → (P → Q) → OnErr r P → OnErr r Q
+on_err_map P Q (Ok x) f p = tt
+on_err_map P Q (Err e) f p = f p
+
+pub on_err : {A E P : Type 0} (r : Result A E) → P → OnErr r P
+on_err (Ok x) p = tt
+on_err (Err e) p = p
 
 -- however it ends, it goes on
 pub goes_all : {D Y : Type 0} (given : ℕ) (old new : Meaning) (before after : Engine D) (r : Result Y Fault) → GoesOnGiving given old new before after → GoesOnGivingOrBreaks given old new before after r

@@ -101,9 +101,12 @@ impl<D: Disk> Engine<D> {
             call,
         );
         match planned {
-            Ok(Given { count, answer }) => {
-                let answer = self.make(alloc, call, answer);
-                Given { count, answer }
+            Ok(planned) => {
+                let answer = self.make(alloc, call, planned.answer);
+                Given {
+                    count: planned.count,
+                    answer,
+                }
             }
             Err(NoMemory) => Given::none(Err(Fault::NoMemory)),
         }

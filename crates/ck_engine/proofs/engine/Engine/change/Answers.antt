@@ -1,4 +1,4 @@
-use Rattle.std.proofs.Common.{◌≡◌, ◌≤◌, ℕ, ◌+◌, Result, Ok, Err, OnErr, refl, sym, ap, subst, ◌∙◌, arith}
+use Rattle.std.proofs.Common.{◌≡◌, ◌≤◌, ℕ, ◌+◌, refl, sym, ap, subst, ◌∙◌, arith}
 use Rattle.ck_model.specs.declared.checkpoint.Limits.{Limits}
 use Rattle.ck_model.specs.declared.reply.Reply.{Reply}
 use Rattle.ck_model.specs.FileCalls.{changed_by}
@@ -10,16 +10,8 @@ use Rattle.ck_data.specs.Device.{store_on}
 use Rattle.ck_files.specs.Files.{AreFiles}
 use Rattle.ck_files.specs.Room.{answered_after, answered_with, given_before}
 use Rattle.ck_engine.specs.Engine.{blocks_of, data_of, mounts_of, table_of, world_of}
-use Rattle.ck_engine.proofs.AttemptLemmas.{behind-attempt, behind-goes_all, quiet-attempt, quiet-goes, goes_all}
+use Rattle.ck_engine.proofs.AttemptLemmas.{behind-attempt, behind-goes_all, quiet-attempt, quiet-goes, goes_all, on_err, on_err_map}
 use Rattle.ck_engine.proofs.engine.Engine.change.Goals as goal
-
-on_err_map : {A E : Type 0} (P Q : Type 0) (r : Result A E) → (P → Q) → OnErr r P → OnErr r Q
-on_err_map P Q (Ok x) f p = tt
-on_err_map P Q (Err e) f p = f p
-
-on_err : {A E P : Type 0} (r : Result A E) → P → OnErr r P
-on_err (Ok x) p = tt
-on_err (Err e) p = p
 
 -- ---- it has no memory, and nothing was given up
 
@@ -29,8 +21,8 @@ returns-in-Err-clause-attempt g c = quiet-attempt c.none.result.count (g.D.Disk.
 pub returns-in-Err-clause-goes_on : goal.returns-in-Err-clause-goes_on
 returns-in-Err-clause-goes_on g c =
     let before = c.args.self.now in
-    let after = record before { slots = c.plan_changes.new.meta; blocks = c.plan_changes.new.blocks; stripped = c.plan_changes.new.stripped } in
-    let e = c.plan_changes.ensures in
+    let after = record before { slots = c.plan_changes-planned.new.meta; blocks = c.plan_changes-planned.new.blocks; stripped = c.plan_changes-planned.new.stripped } in
+    let e = c.plan_changes-planned.ensures in
     let m = g.D.Disk.means before.disk in
     goes_all c.none.result.count m m before after c.none.result.answer
     (quiet-goes c.none.result.count m before after c.requires.whole refl (subst (λ (l : Limits). AreFiles l (table_of after) (blocks_of after)) c.limits-limits.ensures e.files) e.busy e.stripped)
@@ -50,27 +42,27 @@ returns-in-Err-clause-few g c = on_err c.none.result.answer (omega (arith, ap (�
 pub returns-in-Ok-clause-attempt : goal.returns-in-Ok-clause-attempt
 returns-in-Ok-clause-attempt g c =
     let before = c.args.self.now in
-    let middle = record before { slots = c.plan_changes.new.meta; blocks = c.plan_changes.new.blocks; stripped = c.plan_changes.new.stripped } in
+    let middle = record before { slots = c.plan_changes-planned.new.meta; blocks = c.plan_changes-planned.new.blocks; stripped = c.plan_changes-planned.new.stripped } in
     let m = g.D.Disk.means before.disk in
-    behind-attempt c.in-Ok.count m (g.D.Disk.means c.make.new.self.disk) before middle c.make.new.self (c.in-Ok.ensures.without.worlds (store_on m.shows (data_of before)) (mounts_of before)) refl c.plan_changes.ensures.busy c.make.ensures.attempt
+    behind-attempt c.in-Ok.planned.count m (g.D.Disk.means c.make-answer.new.self.disk) before middle c.make-answer.new.self (c.in-Ok.ensures.without.worlds (store_on m.shows (data_of before)) (mounts_of before)) refl c.plan_changes-planned.ensures.busy c.make-answer.ensures.attempt
 
 pub returns-in-Ok-clause-goes_on : goal.returns-in-Ok-clause-goes_on
 returns-in-Ok-clause-goes_on g c =
     let before = c.args.self.now in
-    let middle = record before { slots = c.plan_changes.new.meta; blocks = c.plan_changes.new.blocks; stripped = c.plan_changes.new.stripped } in
+    let middle = record before { slots = c.plan_changes-planned.new.meta; blocks = c.plan_changes-planned.new.blocks; stripped = c.plan_changes-planned.new.stripped } in
     let m = g.D.Disk.means before.disk in
-    behind-goes_all c.in-Ok.count m (g.D.Disk.means c.make.new.self.disk) before middle c.make.new.self (c.in-Ok.ensures.without.worlds (store_on m.shows (data_of before)) (mounts_of before)) refl c.plan_changes.ensures.busy c.make.result c.make.ensures.goes_on
+    behind-goes_all c.in-Ok.planned.count m (g.D.Disk.means c.make-answer.new.self.disk) before middle c.make-answer.new.self (c.in-Ok.ensures.without.worlds (store_on m.shows (data_of before)) (mounts_of before)) refl c.plan_changes-planned.ensures.busy c.make-answer.result c.make-answer.ensures.goes_on
 
 pub returns-in-Ok-clause-ok : goal.returns-in-Ok-clause-ok
 returns-in-Ok-clause-ok g c =
     let before = c.args.self.now in
     let shows = (g.D.Disk.means before.disk).shows in
-    if_ok_map _ _ c.make.result
+    if_ok_map _ _ c.make-answer.result
     (λ reply ok told.
     c.in-Ok.ensures.given (store_on shows (data_of before)) (mounts_of before)
-    ∙ ap (given_before c.in-Ok.count) (ok told)
-    ∙ ap (λ n. answered_after n reply (world_of (g.D.Disk.means c.make.new.self.disk).shows c.make.new.self)) (none_more c.in-Ok.count))
-    c.make.ensures.ok
+    ∙ ap (given_before c.in-Ok.planned.count) (ok told)
+    ∙ ap (λ n. answered_after n reply (world_of (g.D.Disk.means c.make-answer.new.self.disk).shows c.make-answer.new.self)) (none_more c.in-Ok.planned.count))
+    c.make-answer.ensures.ok
   where
     none_more : (n : ℕ) → n + 0 ≡ n
     none_more n = omega arith
@@ -79,11 +71,11 @@ pub returns-in-Ok-clause-err : goal.returns-in-Ok-clause-err
 returns-in-Ok-clause-err g c =
     let before = c.args.self.now in
     let shows = (g.D.Disk.means before.disk).shows in
-    on_err_map _ _ c.make.result (λ err told. err told ∙ c.in-Ok.ensures.without.worlds (store_on shows (data_of before)) (mounts_of before)) c.make.ensures.err
+    on_err_map _ _ c.make-answer.result (λ err told. err told ∙ c.in-Ok.ensures.without.worlds (store_on shows (data_of before)) (mounts_of before)) c.make-answer.ensures.err
 
 pub returns-in-Ok-clause-few : goal.returns-in-Ok-clause-few
 returns-in-Ok-clause-few g c =
     let before = c.args.self.now in
     let shows = (g.D.Disk.means before.disk).shows in
     let given = ap (λ (o : Outcome). o.given) (c.in-Ok.ensures.given (store_on shows (data_of before)) (mounts_of before)) in
-    on_err c.make.result (omega (arith, given))
+    on_err c.make-answer.result (omega (arith, given))
