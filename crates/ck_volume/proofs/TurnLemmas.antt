@@ -46,6 +46,9 @@ pub on_more : (t : ReadAnswer) (P Q : ReadProgress → Type 0) → ((read : Read
 on_more (turn.More read) P Q then h = then read h
 on_more (turn.Replied reply) P Q then h = tt
 
+pub of_reply : (t : ReadAnswer) (reply : Reply) (P : Reply → Type 0) → t ≡ turn.Replied reply → OnReply t P → P reply
+of_reply t reply P is h = subst (λ t. OnReply t P) is h
+
 pub each_reply : (t : ReadAnswer) (Q : Reply → Type 0) → ((reply : Reply) → Q reply) → OnReply t Q
 each_reply (turn.More read) Q h = tt
 each_reply (turn.Replied reply) Q h = h reply
