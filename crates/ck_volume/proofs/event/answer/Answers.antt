@@ -1,4 +1,4 @@
-use Rattle.std.proofs.Common.{◌≡◌, ◌≤◌, ◌⊎◌, ⊎_elim, ℕ, Result, Ok, Err, IfOk, OnOk, OnErr, MatchBool, sym, subst}
+use Rattle.std.proofs.Common.{◌≡◌, ◌≤◌, ◌⊎◌, ⊎_elim, ℕ, Result, Ok, Err, IfOk, OnOk, OnErr, MatchBool, sym, subst, rules}
 use Rattle.ck_data.specs.declared.fault.Fault.{Fault}
 use Rattle.ck_data.specs.declared.fault.Fault.TheVariants as fault
 use Rattle.ck_disk.specs.Disk.{Meaning}
@@ -89,12 +89,13 @@ returns-in-Err-ReadFault-clause-survives g c =
 
 pub returns-in-Err-ReadFault-clause-kept : goal.returns-in-Err-ReadFault-clause-kept
 returns-in-Err-ReadFault-clause-kept g c = λ unbroken told w keeps.
+    let read : c.in-Err-ReadFault.field-0 ≡ fault.ReadFault = search rules in
     let given = c.answer-count.result.count in
     let before = c.args.engine.now in
     let after = c.answer-count.new.self in
     let old = g.D.Disk.means (disk_of before) in
     let new = g.D.Disk.means (disk_of after) in
-    let goes = goes_failed given old new before after c.answer-count.result.answer c.answer-count.ensures.goes_on c.in-Err-ReadFault.field-0 c.in-Err-ReadFault.is (no_lost_write c.in-Err-ReadFault.field-0 c.in-Err-ReadFault.field-0-is) in
+    let goes = goes_failed given old new before after c.answer-count.result.answer c.answer-count.ensures.goes_on c.in-Err-ReadFault.field-0 c.in-Err-ReadFault.is (no_lost_write c.in-Err-ReadFault.field-0 read) in
     keeps-giving given new (present after c.args.log.now) w (world_of old.shows before) (goes.kept told w keeps)
 
 pub returns-in-Err-NoMemory-clause-answers : goal.returns-in-Err-NoMemory-clause-answers
@@ -109,10 +110,11 @@ returns-in-Err-NoMemory-clause-survives g c =
 
 pub returns-in-Err-NoMemory-clause-kept : goal.returns-in-Err-NoMemory-clause-kept
 returns-in-Err-NoMemory-clause-kept g c = λ unbroken told w keeps.
+    let none : c.in-Err-NoMemory.field-0 ≡ fault.NoMemory = search rules in
     let given = c.answer-count.result.count in
     let before = c.args.engine.now in
     let after = c.answer-count.new.self in
     let old = g.D.Disk.means (disk_of before) in
     let new = g.D.Disk.means (disk_of after) in
-    let goes = goes_failed given old new before after c.answer-count.result.answer c.answer-count.ensures.goes_on c.in-Err-NoMemory.field-0 c.in-Err-NoMemory.is (no_write c.in-Err-NoMemory.field-0 c.in-Err-NoMemory.field-0-is) in
+    let goes = goes_failed given old new before after c.answer-count.result.answer c.answer-count.ensures.goes_on c.in-Err-NoMemory.field-0 c.in-Err-NoMemory.is (no_write c.in-Err-NoMemory.field-0 none) in
     keeps-giving given new (present after c.args.log.now) w (world_of old.shows before) (goes.kept told w keeps)
