@@ -21,15 +21,17 @@ use Rattle.ck_model.specs.Values.{Store}
 use Rattle.ck_model.specs.TableWorld.{world_on}
 use Rattle.ck_model.specs.Placed.{NoneGone}
 use Rattle.ck_push.specs.Growth.{gains, losses, write_count}
+use Rattle.ck_reclaim.specs.Removable.{pick_of}
+use Rattle.ck_table.specs.Gone.{with_gone}
 use Rattle.ck_files.specs.Drained.{IsDrained}
 use Rattle.ck_files.specs.Files.{IsOurs}
-use Rattle.ck_files.specs.Room.{Grows, has_room, lack_of_room, answered_with}
+use Rattle.ck_files.specs.Room.{Grows, has_room, lack_of_room, answered_with, given_before}
 use Rattle.ck_files.specs.Changes.{raised, IsRaised, with_changes}
 use Rattle.ck_push.specs.Changes.{MayChangeAll, changed_all, AreMade}
 use Rattle.ck_files.proofs.WorldLaws.{world_same}
 use Rattle.ck_files.specs.Allocated.{SameNamed}
 use Rattle.ck_nodata.proofs.HeldLaws.{records-is, records-within}
-use Rattle.ck_files.proofs.RoomLemmas.{no_room-is, room-is, room_of}
+use Rattle.ck_files.proofs.RoomLemmas.{no_room-is, room-given, room-is, room_of}
 use Rattle.ck_push.proofs.ChangeLaws.{are_made}
 use Rattle.ck_files.proofs.WorldAfter.{world_changed_all}
 use Rattle.ck_files.proofs.NewBlocks.{new-is}
@@ -130,15 +132,23 @@ module _ (store other : Store) (mounts : Mounts) (t : Table) (counters : Counter
       ∙ ap (λ n. record (world_on other mounts (raised t counters n)) { primary = with_changes other (world_on other mounts t).primary items t.counters.stamp }) (sym fixed)
       ∙ leads
 
-  -- it has no room
-  pub changing-full : IsDrained t → (b r : ℕ) (reply : Reply) → b ≡ write_count items → r ≡ gains t items - losses t items → has_room t b r ≡ false → reply ≡ lack_of_room t b r
+  -- it has no room, and nothing is left to give up
+  pub changing-full : IsDrained t → pick_of t ≡ None → (b r : ℕ) (reply : Reply) → b ≡ write_count items → r ≡ gains t items - losses t items → has_room t b r ≡ false → reply ≡ lack_of_room t b r
       → changing w (Ok led) ≡ answered_with reply w
-  changing-full drained b r reply bs rs full is =
+  changing-full drained empty b r reply bs rs full is =
       let none : has_room t (write_count items) (gains t items - losses t items) ≡ false = (λ i. has_room t (sym bs i) (sym rs i)) ∙ full in
       ap (λ n. with_room w (λ left. record led { checkpoints = left.checkpoints }) n Done) new_is
-      ∙ no_room-is store mounts t ours drained led (write_count items) (gains t items - losses t items) (led_grows drained.none) (λ left. record led { checkpoints = left.checkpoints }) Done refl none
+      ∙ no_room-is store mounts t ours drained led (write_count items) (gains t items - losses t items) (led_grows drained.none) empty (λ left. record led { checkpoints = left.checkpoints }) Done refl none
       ∙ (λ i. answered_with (lack_of_room t (sym bs i) (sym rs i)) w)
       ∙ ap (λ x. answered_with x w) (sym is)
+
+  -- it has no room, and comes to what it does once the pick is gone
+  pub changing-given : IsDrained t → (id : ℕ) → pick_of t ≡ Some id → has_room t (write_count items) (gains t items - losses t items) ≡ false
+      → changing w (Ok led) ≡ given_before 1 (changing (world_on store mounts (with_gone t id)) (Ok led))
+  changing-given drained id picked full =
+      ap (λ n. with_room w (λ left. record led { checkpoints = left.checkpoints }) n Done) new_is
+      ∙ room-given store mounts t ours drained led (write_count items) (gains t items - losses t items) (led_grows drained.none) id picked (λ left. record led { checkpoints = left.checkpoints }) Done refl full
+      ∙ ap (λ n. given_before 1 (with_room (world_on store mounts (with_gone t id)) (λ left. record led { checkpoints = left.checkpoints }) n Done)) (sym new_is)
 
   -- it has room, and its changes are made
   pub changing-fits : (b r : ℕ) (after : Table) → b ≡ write_count items → r ≡ gains t items - losses t items → has_room t b r ≡ true → blocks ≡ t.blocks → after ≡ u

@@ -17,5 +17,6 @@ pub mod NewBlocks
 pub mod ChangeLemmas
 pub mod PlanLemmas
 pub mod PlacedLemmas
+pub mod GivenLemmas
 pub mod PlacedLaws
 pub mod NamesLemmas

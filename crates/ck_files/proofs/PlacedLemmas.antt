@@ -1,5 +1,5 @@
 -- A call's planned changes, once the data blocks that they write are given: they may be made, and lead to the model's world.
-use Rattle.std.proofs.Common.{◌≡◌, ◌≢◌, ℕ, suc, ◌+◌, ◌-◌, ◌*◌, ◌<◌, ◌≤◌, ◌^◌, Bool, is_some, nat_le, true, false, not, ◌&&◌, ◌||◌, Result, Ok, Err, Some, List, [], ◌∷◌, length, nat_eq, nat_lt, replicate, if◌then◌else◌, IfSome, inl, inr, refl, sym, ap, subst, ◌∙◌, arith}
+use Rattle.std.proofs.Common.{◌≡◌, ◌≢◌, ℕ, suc, ◌+◌, ◌-◌, ◌*◌, ◌<◌, ◌≤◌, ◌^◌, Bool, is_some, nat_le, true, false, not, ◌&&◌, ◌||◌, Result, Ok, Err, Some, None, List, [], ◌∷◌, length, nat_eq, nat_lt, replicate, if◌then◌else◌, IfSome, inl, inr, refl, sym, ap, subst, ◌∙◌, arith}
 use Rattle.std.specs.List.{list_any, AllByRecursion}
 use Rattle.std.specs.FinMap as map
 use Rattle.std.proofs.lemmas.Bool.{cases_lt}
@@ -33,7 +33,7 @@ use Rattle.ck_model.specs.Step.{changing}
 use Rattle.ck_model.specs.Table.{Table, column, record_count, spare_count}
 use Rattle.ck_model.specs.Values.{Store, payload_of}
 use Rattle.ck_model.specs.Walk.{file_at, directory_at, name_at, new_name_at}
-use Rattle.ck_model.specs.World.{World, Mounts}
+use Rattle.ck_model.specs.World.{World, Checkpoint, Mounts}
 use Rattle.ck_model.specs.TableWorld.{world_on, extent_count}
 use Rattle.ck_chain.specs.Named.{block_of, IsNamed}
 use Rattle.ck_chain.specs.Changes.{deletions_first, is_deletion, key_of, value_after}
@@ -43,16 +43,18 @@ use Rattle.ck_tree.specs.declared.fault.TreeFault.{TreeFault}
 use Rattle.ck_tree.specs.declared.fault.TreeFault.TheVariants.{NotFound, NotDir, IsDir as IsDirectory, Exists as Existing, NotEmpty as NotEmptied, Root as AtRoot, TooBig as TooLong, Spent as AllSpent, NoMemory}
 use Rattle.ck_tree.specs.Faults.{reply_of}
 use Rattle.ck_tree.specs.Plan.{IsPlan, IsRefusal, Differ, MayBeMade, block_by, numbers_after, world_after, with_changes as planned_cells}
+use Rattle.ck_reclaim.specs.Removable.{pick_of}
+use Rattle.ck_table.specs.Gone.{with_gone}
 use Rattle.ck_files.specs.Allocated.{is_taken, SameNamed}
 use Rattle.ck_files.specs.Changes.{raised, IsRaised, with_changes, written_by}
 use Rattle.ck_push.specs.Changes.{MayChangeAll, AllApart, MayChange, changed_all}
 use Rattle.ck_files.specs.Places.{with_places, AreDistinct, AreHeld}
 use Rattle.ck_files.specs.Drained.{IsDrained}
 use Rattle.ck_files.specs.Files.{IsOurs}
-use Rattle.ck_files.specs.Room.{has_room, lack_of_room, answered_with}
+use Rattle.ck_files.specs.Room.{has_room, lack_of_room, answered_with, given_before}
 use Rattle.ck_tree.proofs.MapLaws.{stands_on as stands}
 use Rattle.ck_files.proofs.NamedLaws.{extent_is, is-named}
-use Rattle.ck_files.proofs.ChangeLemmas.{changing-full, changing-fits}
+use Rattle.ck_files.proofs.ChangeLemmas.{changing-full, changing-fits, changing-given}
 
 -- ---- what doesn't depend on the data blocks
 
@@ -456,6 +458,34 @@ room_records t blocks records room =
     last true b h = h
     last false b h = cc
 
+-- the bytes that a call writes don't depend on the checkpoints
+same_blocks : (w : World) (checkpoints : List Checkpoint) (c : Call) → block_by w c ≡ block_by (record w { checkpoints = checkpoints }) c
+same_blocks w checkpoints (call.Make path) = refl
+same_blocks w checkpoints (call.Mkdir path) = refl
+same_blocks w checkpoints (call.Rm path) = refl
+same_blocks w checkpoints (call.Rmdir path) = refl
+same_blocks w checkpoints (call.Mv path new_path) = refl
+same_blocks w checkpoints (call.Write path place bytes) = refl
+same_blocks w checkpoints (call.Fill path place len byte) = refl
+same_blocks w checkpoints (call.Trunc path size) = refl
+same_blocks w checkpoints (call.Read path place len) = refl
+same_blocks w checkpoints (call.List path) = refl
+same_blocks w checkpoints (call.Stat path) = refl
+same_blocks w checkpoints (call.Create name nodata removable) = refl
+same_blocks w checkpoints (call.Remove name) = refl
+same_blocks w checkpoints (call.Nodata name synchronous) = refl
+same_blocks w checkpoints (call.Removable name on) = refl
+same_blocks w checkpoints call.Ckpts = refl
+same_blocks w checkpoints (call.Mount letter name) = refl
+same_blocks w checkpoints (call.Umount letter) = refl
+same_blocks w checkpoints (call.Cread letter path place len) = refl
+same_blocks w checkpoints (call.Clist letter path) = refl
+same_blocks w checkpoints (call.Restore name) = refl
+same_blocks w checkpoints (call.Backup letter later_letter) = refl
+same_blocks w checkpoints (call.Full letter) = refl
+same_blocks w checkpoints call.Info = refl
+same_blocks w checkpoints call.Sync = refl
+
 -- ---- what the call is answered
 
 module _ (store : Store) (mounts : Mounts) (t : Table) (c : Call) (changes : List Change) (ours : IsOurs t) (plan : IsPlan t c changes) where
@@ -483,43 +513,73 @@ module _ (store : Store) (mounts : Mounts) (t : Table) (c : Call) (changes : Lis
     abbrev items : List Change
     items = with_places changes places
 
-    leads : changing w (changed_by w c) ≡ changing w (Ok (record w { primary = with_changes other w.primary items t.counters.stamp; next = next }))
-    leads = ap (changing w) (asked ∙ ap (λ cells. Ok (record w { primary = cells; next = next })) (sym (placed_cells (block_by w c) other t.counters.stamp w.primary changes places held)))
+    leads : (x : World) → changing x (changed_by w c) ≡ changing x (Ok (record w { primary = with_changes other w.primary items t.counters.stamp; next = next }))
+    leads x = ap (changing x) (asked ∙ ap (λ cells. Ok (record w { primary = cells; next = next })) (sym (placed_cells (block_by w c) other t.counters.stamp w.primary changes places held)))
 
     counted : (b r : ℕ) → b ≡ write_count changes → r ≡ gains t changes - losses t changes → (b ≡ write_count items) × (r ≡ gains t items - losses t items)
     counted b r bs rs = (bs ∙ sym (placed_writes changes places), rs ∙ (λ i. sym (placed_gains t changes places) i - sym (placed_losses t changes places) i))
 
-    full_with : IsDrained t → (b r : ℕ) (reply : Reply) → b ≡ write_count changes → r ≡ gains t changes - losses t changes → has_room t b r ≡ false → reply ≡ lack_of_room t b r → changing w (changed_by w c) ≡ answered_with reply w
-    full_with drained b r reply bs rs full is =
+    full_with : IsDrained t → pick_of t ≡ None → (b r : ℕ) (reply : Reply) → b ≡ write_count changes → r ≡ gains t changes - losses t changes → has_room t b r ≡ false → reply ≡ lack_of_room t b r → changing w (changed_by w c) ≡ answered_with reply w
+    full_with drained none b r reply bs rs full is =
         let n = counted b r bs rs in
-        leads ∙ changing-full store other mounts t next blocks items ours (planned_raised blocks limit) planned_up.stamp same (planned_may places blocks many distinct are most) drained b r reply n.0 n.1 full is
+        leads w ∙ changing-full store other mounts t next blocks items ours (planned_raised blocks limit) planned_up.stamp same (planned_may places blocks many distinct are most) drained none b r reply n.0 n.1 full is
+
+    given_with : IsDrained t → (id : ℕ) → pick_of t ≡ Some id → has_room t (write_count changes) (gains t changes - losses t changes) ≡ false → changing w (changed_by w c) ≡ given_before 1 (changing (world_on store mounts (with_gone t id)) (changed_by w c))
+    given_with drained id picked full =
+        let n = counted (write_count changes) (gains t changes - losses t changes) refl refl in
+        leads w
+        ∙ changing-given store other mounts t next blocks items ours (planned_raised blocks limit) planned_up.stamp same (planned_may places blocks many distinct are most) drained id picked ((λ i. has_room t (sym n.0 i) (sym n.1 i)) ∙ full)
+        ∙ ap (given_before 1) (sym (leads (world_on store mounts (with_gone t id))))
 
     -- it has room, and its changes are made
     pub planned-fits : has_room t (write_count changes) (gains t changes - losses t changes) ≡ true → blocks ≡ t.blocks → (after : Table) → after ≡ changed_all (raised t next blocks) items t.counters.stamp
         → changing w (changed_by w c) ≡ answered_with Done (world_on other mounts after)
     planned-fits room fixed after is =
         let n = counted (write_count changes) (gains t changes - losses t changes) refl refl in
-        leads ∙ changing-fits store other mounts t next blocks items ours (planned_raised blocks limit) planned_up.stamp same (planned_may places blocks many distinct are most)
+        leads w ∙ changing-fits store other mounts t next blocks items ours (planned_raised blocks limit) planned_up.stamp same (planned_may places blocks many distinct are most)
         (write_count changes) (gains t changes - losses t changes) after n.0 n.1 room fixed is
 
-  -- it has no room
-  pub planned-full : IsDrained t → (b r : ℕ) (reply : Reply) → b ≡ write_count changes → r ≡ gains t changes - losses t changes → has_room t b r ≡ false → reply ≡ lack_of_room t b r
-      → changing w (changed_by w c) ≡ answered_with reply w
-  planned-full drained b r reply bs rs full is =
+  -- behind the limit its changes have data blocks that hold what it writes
+  behind : {P : Type 0} → ((other : Store) (places : List ℕ) (blocks : ℕ) → length places ≡ write_count changes → AreDistinct places → AllByRecursion (IsPlace t blocks) places
+      → t.blocks ≤ blocks → blocks ≤ 2 ^ 31 → SameNamed t store other → AreHeld (block_by w c) other (with_places changes places) → P) → P
+  behind found =
       let blocks = t.blocks + write_count changes in
       let few = few_writes changes in
       let at_most = plan.few in
       let sized = ours.sized.blocks in
-      full_with (holding (block_by w c) store t.blocks changes) (places_from t.blocks changes) blocks (many_from t.blocks changes) (distinct_from t.blocks changes)
+      found (holding (block_by w c) store t.blocks changes) (places_from t.blocks changes) blocks (many_from t.blocks changes) (distinct_from t.blocks changes)
       (places_are t ours.sound t.blocks blocks changes (omega arith) (omega arith)) (omega arith) (omega (arith, few, at_most, sized))
       (λ block named. holding_below (block_by w c) store t.blocks changes block (below block (is-named t block named)))
-      (held_from (block_by w c) store t.blocks changes) drained b r reply bs rs full is
+      (held_from (block_by w c) store t.blocks changes)
     where
       below : (block : ℕ) → IsNamed t block → block < t.blocks
       below block named = elim (cases_lt block t.blocks) [
         | inl low ↦ low
         | inr past ↦ absurd (past_unnamed t ours.sound block (omega (arith, past)) named)
       ]
+
+  -- it has no room, and nothing is left to give up
+  pub planned-full : IsDrained t → pick_of t ≡ None → (b r : ℕ) (reply : Reply) → b ≡ write_count changes → r ≡ gains t changes - losses t changes → has_room t b r ≡ false → reply ≡ lack_of_room t b r
+      → changing w (changed_by w c) ≡ answered_with reply w
+  planned-full drained none b r reply bs rs full is =
+      behind (λ other places blocks many distinct are limit most same held.
+      full_with other places blocks many distinct are limit most same held drained none b r reply bs rs full is)
+
+  -- where one is left to give up, it comes to what it does once that one is gone
+  pub planned-given : IsDrained t → (id : ℕ) → pick_of t ≡ Some id → has_room t (write_count changes) (gains t changes - losses t changes) ≡ false
+      → let left = world_on store mounts (with_gone t id) in changing w (changed_by w c) ≡ given_before 1 (changing left (changed_by left c))
+  planned-given drained id picked full =
+      behind (λ other places blocks many distinct are limit most same held.
+      given_with other places blocks many distinct are limit most same held drained id picked full)
+      ∙ ap (given_before 1) (asked_left (world_on store mounts (with_gone t id)).checkpoints)
+    where
+      -- it asks for the same whatever the checkpoints are
+      asked_left : (checkpoints : List Checkpoint) → let left = record w { checkpoints = checkpoints } in changing left (changed_by w c) ≡ changing left (changed_by left c)
+      asked_left checkpoints =
+          let left = record w { checkpoints = checkpoints } in
+          ap (changing left) asked
+          ∙ ap (λ bytes. changing left (Ok (record w { primary = planned_cells bytes t.counters.stamp w.primary changes; next = next }))) (same_blocks w checkpoints c)
+          ∙ ap (changing left) (sym (plan.leads left (record { cells = stands store t 0; next = refl })))
 
 -- it is refused
 pub planned-refused : (store : Store) (mounts : Mounts) (t : Table) (c : Call) (fault : TreeFault) → IsRefusal t c fault → fault ≢ NoMemory → changing (world_on store mounts t) (changed_by (world_on store mounts t) c) ≡ answered_with (reply_of fault) (world_on store mounts t)

@@ -1,5 +1,5 @@
--- A plan for a table is one for each table that stands for the same world.
-use Rattle.std.proofs.Common.{◌≡◌, List, is_some, sym, ap, subst, ◌∙◌}
+-- A plan for a table is one for each table that stands for the same world, or for it without what was given up.
+use Rattle.std.proofs.Common.{◌≡◌, ℕ, List, is_some, sym, ap, subst, ◌∙◌}
 use Rattle.std.specs.List.{All}
 use Rattle.std.specs.Option.{option_map}
 use Rattle.std.proofs.lemmas.List.Elements.{All-weaker}
@@ -13,9 +13,9 @@ use Rattle.ck_model.specs.World.{World}
 use Rattle.ck_chain.specs.Changes.{key_of}
 use Rattle.ck_tree.specs.Map.{small_in}
 use Rattle.ck_tree.specs.Plan.{IsPlan, MayBeMade, StandsForPrimary, numbers_after}
-use Rattle.ck_files.specs.Worlds.{StandAlike}
+use Rattle.ck_files.specs.Worlds.{StandsWithout}
 
-module _ (old new : Table) (alike : StandAlike old new) where
+module _ (given : ℕ) (old new : Table) (alike : StandsWithout given old new) where
   value_alike : (key : Key) → value_at new 0 key ≡ value_at old 0 key
   value_alike key = ap present (alike.primary key)
 

@@ -1,6 +1,6 @@
 use Rattle.std.proofs.Common.{◌<◌, sym, subst}
 use Rattle.ck_files.proofs.PlacedLemmas.{few_of_plan}
-use Rattle.ck_files.proofs.room.make_room.Goals as goal
+use Rattle.ck_files.proofs.room.room_left.Goals as goal
 
 pub lack-requires-clause-few_blocks : goal.lack-requires-clause-few_blocks
 lack-requires-clause-few_blocks g c = subst (λ n. n < 2147483648) (sym c.cost-cost.ensures.blocks) (few_of_plan (g.M.Meta.table c.drain.new.meta) c.args.changes.now c.requires.few).1
