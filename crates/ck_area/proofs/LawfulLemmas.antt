@@ -106,7 +106,7 @@ filter_all p (x ∷ xs) all = (λ i. cond (all x (inl refl) i) (x ∷ filter p x
 pub entry_there : (t : Table) (e : (ℕ × Key) × Held) → Among e (map.entries t.entries) → column t e.0.1 e.0.0 ≡ Some e.1
 entry_there t e h = map.get-entries t.entries e.0 ∙ sorted_found entry_cmp_total entry_cmp_exact e (map.entries t.entries) (entries_sorted t.entries) h
 
-pub fileset_there : (t : Table) (e : ℕ × Fileset) → Among e (map.entries t.filesets) → map.get t.filesets e.0 ≡ Some e.1
+fileset_there : (t : Table) (e : ℕ × Fileset) → Among e (map.entries t.filesets) → map.get t.filesets e.0 ≡ Some e.1
 fileset_there t e h = map.get-entries t.filesets e.0 ∙ sorted_found nat_cmp_total nat_cmp-IsAntisymmetric e (map.entries t.filesets) (entries_sorted t.filesets) h
 
 -- ---- a sound table

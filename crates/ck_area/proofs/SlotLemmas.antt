@@ -1,19 +1,11 @@
--- A test of the entries or filesets of some slots, slot by slot.
-use Rattle.std.proofs.Common.{◌≡◌, ℕ, ◌+◌, ◌<◌, Bool, not, ◌||◌, Option, [], ◌∷◌, ◌++◌, length, take, get_or, filter, refl, sym, ap, ◌∙◌, append_assoc, length-append}
-use Rattle.std.specs.List.{list_any}
-use Rattle.std.proofs.lemmas.List.Folds.{list_any-append}
+-- The entries and filesets of some slots and one more.
+use Rattle.std.proofs.Common.{◌≡◌, ℕ, ◌+◌, ◌<◌, not, Option, [], ◌∷◌, ◌++◌, length, take, get_or, filter, refl, sym, ap, ◌∙◌, append_assoc, length-append}
 use Rattle.std.proofs.lemmas.List.{take_more, append-nil}
 use Rattle.std.proofs.lemmas.List.Elements.{filter-append}
 use Rattle.ck_model.specs.declared.checkpoint.Fileset.{Fileset}
 use Rattle.ck_record.specs.declared.records.Record.{Record}
 use Rattle.ck_area.specs.Damage.{live_count}
 use Rattle.ck_area.specs.Area.{Area, entries_by, entries_in, filesets_by, filesets_in}
-
-pub any_fileset : (test : ℕ × Fileset → Bool) (slots : Area) → list_any test (filesets_in slots) ≡ list_any (λ slot. list_any test (filesets_by slot)) slots
-any_fileset test [] = refl
-any_fileset test (slot ∷ slots) = list_any-append test (filesets_by slot) (filesets_in slots) ∙ ap (λ b. list_any test (filesets_by slot) || b) (any_fileset test slots)
-
--- ---- one more slot
 
 entries_push : (slots : Area) (slot : Option Record) → entries_in (slots ++ slot ∷ []) ≡ entries_in slots ++ entries_by slot
 entries_push [] slot = append-nil (entries_by slot)

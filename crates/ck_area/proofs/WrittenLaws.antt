@@ -1,7 +1,7 @@
 -- The area that a sound table is written as has no damage, and is read as that table.
 use Rattle.std.proofs.Common.{◌≡◌, ℕ, zero, suc, ◌+◌, ◌-◌, ◌≤◌, Bool, true, false, ◌&&◌, nat_lt, List, [], ◌∷◌, ◌++◌, map as list_map, length, length-append, Option, Some, None, IfSome, refl, sym, ap, subst, ◌∙◌, append_assoc, append-nil, arith}
 use Rattle.std.specs.Bool.{⊤}
-use Rattle.std.specs.List.{list_any, AllByRecursion}
+use Rattle.std.specs.List.{AllByRecursion}
 use Rattle.std.specs.Ordering.{nat_cmp}
 use Rattle.std.specs.declared.cmp.Ordering.{Ordering}
 use Rattle.std.specs.Cmp.{IsTotalOrder}
@@ -25,10 +25,9 @@ use Rattle.ck_record.specs.declared.records.Record.TheVariants.{Free, Counters a
 use Rattle.ck_record.specs.Record.{IsRecord}
 use Rattle.ck_area.specs.Area.{Area, entries_in, filesets_in, counters_in, no_counters, table_of, records_of, written_as, AreRecords, fileset_slots, entry_slots, free_slots, left_free}
 use Rattle.ck_area.specs.Damage.{breaks_fileset, breaks_lower, damage}
-use Rattle.ck_area.proofs.Fronts.{Each, none_of, none_passes, passes_none}
+use Rattle.ck_area.proofs.Fronts.{Each, none_of}
 use Rattle.ck_area.proofs.SlotsLemmas.{IsFineWhere, EntryFine, FilesetFine, entries_in-append, filesets_in-append, entries_in-more, filesets_in-more, no_damage}
-use Rattle.ck_area.proofs.UndamagedLemmas.{fileset_among}
-use Rattle.ck_area.proofs.LawfulLemmas.{fileset_there, filesets_lawful, entries_lawful}
+use Rattle.ck_area.proofs.LawfulLemmas.{filesets_lawful, entries_lawful}
 
 pub written_parts : (slots : ℕ) (t : Table) → written_as slots t ≡ Some (CountersRecord t.counters) ∷ (fileset_slots (map.entries t.filesets) ++ entry_slots (map.entries t.entries) ++ free_slots (left_free slots t))
 written_parts slots t =

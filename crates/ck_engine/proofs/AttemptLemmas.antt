@@ -1,5 +1,5 @@
 -- What calls leave of a volume and its device.
-use Rattle.std.proofs.Common.{◌≡◌, ◌≢◌, inl, inr, ℕ, ◌+◌, ◌≤◌, ◌==◌, ◌||◌, ◌⊎◌, IsTrue, false, List, [], get_or, Result, Ok, Err, OnOk, refl, sym, ap, subst, ◌∙◌, arith, get_or-set_other}
+use Rattle.std.proofs.Common.{◌≡◌, ◌≢◌, inl, inr, ℕ, ◌+◌, ◌≤◌, ◌==◌, ◌||◌, ◌⊎◌, IsTrue, false, List, [], get_or, Result, Ok, Err, OnErr, OnOk, refl, sym, ap, subst, ◌∙◌, arith, get_or-set_other}
 use Rattle.std.specs.FinMap as map
 use Rattle.std.specs.FinSet as set
 use Rattle.std.specs.Ordering.{nat_cmp}
@@ -9,6 +9,7 @@ use Rattle.ck_log.specs.Images.{table_on, names_second, Settled, CommitLeaves}
 use Rattle.ck_log.proofs.AreaLaws.{area_low, area_high, outside_both}
 use Rattle.ck_log.proofs.RecoveryLaws.{table_on-set, settled-keeps}
 use Rattle.ck_alloc.specs.Blocks.{Allocation, IsPartition, free_count}
+use Rattle.ck_model.specs.Space.{without_picks}
 use Rattle.ck_model.specs.World.{World, unmounted}
 use Rattle.ck_model.specs.Table.{Table}
 use Rattle.ck_model.specs.TableWorld.{world_on, extent_count}
@@ -24,7 +25,7 @@ use Rattle.ck_slots.specs.Committed.{Commits}
 use Rattle.ck_files.specs.Reports.{limits_of}
 use Rattle.ck_data.specs.declared.fault.Fault.{Fault}
 use Rattle.ck_engine.specs.declared.engine.Engine.{Engine}
-use Rattle.ck_engine.specs.Engine.{table_of, mounts_of, blocks_of, layout_of, data_of, world_of, IsWhole, KeepsWorld, GoesOn, GoesOnOrBreaks, IsAttempt}
+use Rattle.ck_engine.specs.Engine.{table_of, mounts_of, blocks_of, layout_of, data_of, world_of, IsWhole, KeepsWorld, GoesOn, GoesOnGiving, GoesOnGivingOrBreaks, GoesOnOrBreaks, IsAttempt, IsAttemptGiving}
 use Rattle.ck_files.proofs.AllocatedLaws.{used_count}
 use Rattle.ck_files.proofs.WorldLaws.{world_same}
 use Rattle.ck_data.proofs.StoredLaws.{stored-keeps, kept_there}
@@ -36,10 +37,18 @@ pub on_ok_map : {A E : Type 0} (P Q : Type 0) (r : Result A E) → (P → Q) →
 on_ok_map P Q (Ok x) f p = f p
 on_ok_map P Q (Err e) f p = tt
 
+pub on_err_map : {A E : Type 0} (P Q : Type 0) (r : Result A E) → (P → Q) → OnErr r P → OnErr r Q
+on_err_map P Q (Ok x) f p = tt
+on_err_map P Q (Err e) f p = f p
+
+pub on_err : {A E P : Type 0} (r : Result A E) → P → OnErr r P
+on_err (Ok x) p = tt
+on_err (Err e) p = p
+
 -- however it ends, it goes on
-pub goes_all : {D Y : Type 0} (old new : Meaning) (before after : Engine D) (r : Result Y Fault) → GoesOn old new before after → GoesOnOrBreaks old new before after r
-goes_all old new before after (Ok y) goes = goes
-goes_all old new before after (Err why) goes = inr goes
+pub goes_all : {D Y : Type 0} (given : ℕ) (old new : Meaning) (before after : Engine D) (r : Result Y Fault) → GoesOnGiving given old new before after → GoesOnGivingOrBreaks given old new before after r
+goes_all given old new before after (Ok y) goes = goes
+goes_all given old new before after (Err why) goes = inr goes
 
 runs_same : (m : Meaning) → Runs m m
 runs_same m = record { size = refl; tells = refl; reads = omega arith; writes = omega arith; later = omega arith }
@@ -72,17 +81,17 @@ module _ {D : Type 0} where
   stripped_still before after table place done =
       subst (λ (last : StripItem). IsStrippedTo (table_of after) last) (sym place) (subst (λ (t : Table). IsStrippedTo t before.stripped) (sym table) done)
 
-  -- ---- no call of the device
+  -- ---- no call of the device: what was committed stays, whatever is given up
 
-  pub quiet-attempt : (m : Meaning) (before after : Engine D) → Lawful m → IsAttempt m m before after
-  quiet-attempt m before after law = record {
+  pub quiet-attempt : (given : ℕ) (m : Meaning) (before after : Engine D) → Lawful m → IsAttemptGiving given m m before after
+  quiet-attempt given m before after law = record {
     runs = runs_same m;
-    survives = λ told w keeps. leaves_either_start w (unmounted (world_of m.shows before)) (layout_of before) (blocks_of before) m law (inl keeps);
+    survives = λ told w keeps. leaves_either_start w (unmounted (without_picks given (world_of m.shows before))) (layout_of before) (blocks_of before) m law (inl keeps);
   }
 
-  pub quiet-goes : (m : Meaning) (before after : Engine D) → IsWhole m before → layout_of after ≡ layout_of before → AreFiles (limits_of (table_of before)) (table_of after) (blocks_of after)
-      → KeepsBusy (blocks_of before) (blocks_of after) → IsStrippedTo (table_of after) after.stripped → GoesOn m m before after
-  quiet-goes m before after whole layout files busy stripped = record {
+  pub quiet-goes : (given : ℕ) (m : Meaning) (before after : Engine D) → IsWhole m before → layout_of after ≡ layout_of before → AreFiles (limits_of (table_of before)) (table_of after) (blocks_of after)
+      → KeepsBusy (blocks_of before) (blocks_of after) → IsStrippedTo (table_of after) after.stripped → GoesOnGiving given m m before after
+  quiet-goes given m before after whole layout files busy stripped = record {
     whole = record {
       files = own_files (table_of before) (table_of after) (blocks_of after) files;
       blocks = ap (λ (l : Layout). l.blocks) layout ∙ whole.blocks ∙ sym files.limit;
@@ -94,25 +103,26 @@ module _ {D : Type 0} where
     kept = λ told w keeps. inl (subst (λ (l : Layout). Keeps l (blocks_of after) m w) (sym layout) (keeps-busy (layout_of before) (blocks_of before) m w keeps (blocks_of after) busy));
   }
 
-  -- ---- behind a step that nobody sees
+  -- ---- behind a step that gives up so many checkpoints, and is else seen by nobody
 
-  module _ (m new : Meaning) (before middle after : Engine D) (world : world_of m.shows middle ≡ world_of m.shows before) (layout : layout_of middle ≡ layout_of before) (busy : KeepsBusy (blocks_of before) (blocks_of middle)) where
+  module _ (given : ℕ) (m new : Meaning) (before middle after : Engine D) (world : world_of m.shows middle ≡ without_picks given (world_of m.shows before)) (layout : layout_of middle ≡ layout_of before)
+      (busy : KeepsBusy (blocks_of before) (blocks_of middle)) where
     keeps-still : (w : World) → KeepsWorld m before w → KeepsWorld m middle w
     keeps-still w keeps = subst (λ (l : Layout). Keeps l (blocks_of middle) m w) (sym layout) (keeps-busy (layout_of before) (blocks_of before) m w keeps (blocks_of middle) busy)
 
-    pub behind-attempt : IsAttempt m new middle after → IsAttempt m new before after
+    pub behind-attempt : IsAttempt m new middle after → IsAttemptGiving given m new before after
     behind-attempt is = record {
       runs = is.runs;
       survives = λ told w keeps. subst (λ now. LeavesOnly m new (OpensToEither w (unmounted now))) world (is.survives told w (keeps-still w keeps));
     }
 
-    behind-goes : GoesOn m new middle after → GoesOn m new before after
+    behind-goes : GoesOn m new middle after → GoesOnGiving given m new before after
     behind-goes is = record {
       whole = is.whole;
       kept = λ told w keeps. subst (λ now. KeepsWorld new after w ⊎ KeepsWorld new after (unmounted now)) world (is.kept told w (keeps-still w keeps));
     }
 
-    pub behind-goes_all : {Y : Type 0} (r : Result Y Fault) → GoesOnOrBreaks m new middle after r → GoesOnOrBreaks m new before after r
+    pub behind-goes_all : {Y : Type 0} (r : Result Y Fault) → GoesOnOrBreaks m new middle after r → GoesOnGivingOrBreaks given m new before after r
     behind-goes_all (Ok y) goes = behind-goes goes
     behind-goes_all (Err why) goes = elim goes [ inl broken ↦ inl broken | inr goes ↦ inr (behind-goes goes) ]
 

@@ -30,7 +30,7 @@ use Rattle.ck_engine.specs.Safe.{HoldsTable}
 use Rattle.ck_engine.specs.declared.engine.Engine.{Engine}
 use Rattle.ck_engine.specs.Engine.{table_of, mounts_of, blocks_of, layout_of}
 use Rattle.ck_disk.specs.Runs.{Runs}
-use Rattle.ck_engine.proofs.SafeLemmas.{written-built, written-undamaged, written-table}
+use Rattle.ck_engine.proofs.SafeLemmas.{written-undamaged, written-table}
 use Rattle.ck_engine.proofs.OpenLemmas.{synced-safe}
 use Rattle.ck_engine.proofs.KeptLaws.{committed-exact}
 
@@ -38,9 +38,6 @@ use Rattle.ck_engine.proofs.KeptLaws.{committed-exact}
 none_stands : (blocks records : ℕ) (t : Table) → t ≡ new_table blocks records → (id : ℕ) (fileset : Fileset) → map.get t.filesets id ≡ Some fileset → ⊥
 none_stands blocks records t is id fileset has =
     false≢true (ap is_some (sym (map.get-empty nat_cmp id) ∙ ap (λ (x : Table). map.get x.filesets id) (sym is) ∙ has))
-
-pub plain_new : (blocks records : ℕ) (t : Table) → t ≡ new_table blocks records → IsPlain t
-plain_new blocks records t is id fileset has = absurd (none_stands blocks records t is id fileset has)
 
 -- so nothing is left to remove or to strip
 new_drained : (blocks records : ℕ) (t : Table) → t ≡ new_table blocks records → IsDrained t
@@ -74,7 +71,6 @@ module _ {D : Type 0} (blocks records : ℕ) (old new : Meaning) (volume : Engin
     region = found told;
     area = slots_of place t;
     slots = subst (λ (image : Image). AreSlots image (slots_of place t)) (sym (first told ∙ ap (λ (l : Layout). first_table (table_blocks l.records)) (sym layout))) written;
-    built = written-built place t ours blocks_are records_are;
     undamaged = written-undamaged place t ours blocks_are records_are;
     table = written-table place t ours blocks_are records_are;
   }

@@ -1,5 +1,5 @@
 -- A volume as it is opened.
-use Rattle.std.proofs.Common.{◌≡◌, ℕ, zero, suc, ◌%◌, ◌||◌, ◌<◌, ◌≤◌, Bool, true, false, IsTrue, List, [], ◌∷◌, length, nat_eq, slice_index_or, Result, Ok, Err, IfOk, IfErr, if◌then◌else◌, refl, sym, ap, subst, ◌∙◌, arith}
+use Rattle.std.proofs.Common.{◌≡◌, ℕ, zero, suc, ◌%◌, ◌||◌, ◌<◌, ◌≤◌, Bool, true, false, IsTrue, List, [], ◌∷◌, length, nat_eq, slice_index_or, Result, Ok, Err, IfOk, IfErr, refl, sym, ap, subst, ◌∙◌, arith}
 use Rattle.std.specs.List.{list_any}
 use Rattle.std.proofs.lemmas.Bool.Decides.{nat_tests}
 use Rattle.ck_alloc.specs.Blocks.{Allocation, IsPartition, used_alone}
@@ -20,8 +20,7 @@ use Rattle.ck_model.specs.Table.{Table}
 use Rattle.ck_model.specs.Rules.{IsSound}
 use Rattle.ck_model.specs.TableWorld.{world_on}
 use Rattle.ck_area.specs.Area.{Area, AreSlots}
-use Rattle.ck_area.specs.Damage.{damage}
-use Rattle.ck_slots.specs.Opened.{IsBuilt, IsRefused, IsOpened as IsOpenedTable, IsOpenFault as IsOpenSlotsFault}
+use Rattle.ck_slots.specs.Opened.{IsRefused, IsOpened as IsOpenedTable, IsOpenFault as IsOpenSlotsFault}
 use Rattle.ck_slots.specs.declared.opened.OpenSlots.{OpenSlots}
 use Rattle.ck_slots.specs.declared.opened.OpenSlots.TheVariants as open_slots
 use Rattle.ck_files.specs.Allocated.{is_named, IsAllocated}
@@ -48,7 +47,6 @@ synced-safe layout t m law told synced holds = record {
         region = recovered_region-agrees (IsClean m) m.shows image (synced 0) (synced 1) same ∙ holds.region;
         area = holds.area;
         slots = subst (λ blocks. AreSlots blocks holds.area) (sym (table_on-agrees layout (IsClean m) m.shows image (λ k low high. synced k) same)) holds.slots;
-        built = holds.built;
         undamaged = holds.undamaged;
         table = holds.table;
       };
@@ -57,16 +55,11 @@ synced-safe layout t m law told synced holds = record {
       record { size = same.size; at = λ k at. same.at k (synced k) };
 }
 
--- no checkpoint is of a form that isn't built
-pub plain_built : (t : Table) → IsBuilt t → IsPlain t
-plain_built t built id fileset has = record { stays = built id fileset has }
-
 pub opened-holds : (layout : Layout) (t : Table) (m : Meaning) → Lawful m → IsTrue m.tells → recovered_region m.shows ≡ OpensAt layout → Settled layout m → IsOpenedTable layout m t → HoldsTable layout t m.shows
 opened-holds layout t m law told found settled opened = record {
   region = found;
   area = opened.area;
   slots = subst (λ blocks. AreSlots blocks opened.area) (area_of-settled layout m law told settled) opened.slots;
-  built = opened.built;
   undamaged = opened.undamaged;
   table = sym opened.table;
 }
@@ -133,31 +126,18 @@ module _ (layout : Layout) (old new : Meaning) (law : Lawful old) (reads : OnlyR
       subst (λ (header : Recovered). FindsBy header old.shows is) (sym (found told))
       (area, subst (λ blocks. AreSlots blocks area) (area_of-settled layout old law told settled) slots, sym same)
 
-  unbuilt : (version : ℕ) → IsRefused layout old (open_slots.BadFormat version) → IsFound old new (BadFormat version)
-  unbuilt version refused = (
-    λ told.
-        let r = refused told in
-        finds_area told r.0 r.1 (BadFormat version)
-        (ap (λ (b : Bool). if b then BadFormat 0 else unless_damaged layout old.shows r.0 (damage layout.blocks layout.records r.0)) r.2.1 ∙ ap BadFormat (sym r.2.0)),
-    quiet,
-  )
-
   damaged : (block place : ℕ) → IsRefused layout old (open_slots.Damaged block place) → IsFound old new (Damaged block place)
   damaged block place refused = (
     λ told.
         let r = refused told in
         finds_area told r.0 r.1 (Damaged block place)
-        (ap (λ (b : Bool). if b then BadFormat 0 else unless_damaged layout old.shows r.0 (damage layout.blocks layout.records r.0)) r.2.0
-        ∙ ap (unless_damaged layout old.shows r.0) r.2.2
-        ∙ ap (λ (n : ℕ). Damaged n (r.2.1 % 32)) (sym r.2.3)
-        ∙ ap (Damaged block) (sym r.2.4)),
+        (ap (unless_damaged layout old.shows r.0) r.2.1
+        ∙ ap (λ (n : ℕ). Damaged n (r.2.0 % 32)) (sym r.2.2)
+        ∙ ap (Damaged block) (sym r.2.3)),
     quiet,
   )
 
   -- the refusal that is handed on
-  pub refused_format : (why : OpenSlots) → IsOpenSlotsFault layout old new why → (version : ℕ) → why ≡ open_slots.BadFormat version → IsFound old new (BadFormat version)
-  refused_format why fault version is = unbuilt version (subst (IsOpenSlotsFault layout old new) is fault)
-
   pub refused_slot : (why : OpenSlots) → IsOpenSlotsFault layout old new why → (block place : ℕ) → why ≡ open_slots.Damaged block place → IsFound old new (Damaged block place)
   refused_slot why fault block place is = damaged block place (subst (IsOpenSlotsFault layout old new) is fault)
 

@@ -1,14 +1,14 @@
 -- The table of the world that an image opens to.
-use Rattle.std.proofs.Common.{◌≡◌, ℕ, Bool, true, false, if◌then◌else◌, Option, Some, None, refl}
+use Rattle.std.proofs.Common.{◌≡◌, ℕ, Option, Some, None, refl}
 use Rattle.ck_disk.specs.Disk.{Image}
 use Rattle.ck_log.specs.Layout.{Layout}
 use Rattle.ck_log.specs.Header.{Recovered, NotVolume as NoVolume, BadFormat as BadHeader, Opens as OpensAt}
 use Rattle.ck_log.specs.Images.{recovered_region, table_on}
 use Rattle.ck_area.specs.Area.{Area, AreSlots, table_of}
-use Rattle.ck_area.specs.Damage.{damage, is_unbuilt}
+use Rattle.ck_area.specs.Damage.{damage}
 use Rattle.ck_area.proofs.TableLaws.{records_of_slots, table_within, undamaged_sound}
 use Rattle.ck_model.specs.World.{World}
-use Rattle.ck_engine.specs.Recovery.{BadFormat, Opens, world_in, unless_damaged, FindsBy, Recovers, HasTable}
+use Rattle.ck_engine.specs.Recovery.{Opens, world_in, unless_damaged, FindsBy, Recovers, HasTable}
 
 module _ (image : Image) (w : World) where
   -- slots without damage
@@ -27,15 +27,10 @@ module _ (image : Image) (w : World) where
         world = same;
       }
 
-  by_form : (layout : Layout) (area : Area) → recovered_region image ≡ OpensAt layout → AreSlots (table_on layout image) area
-      → (unbuilt : Bool) → Opens w ≡ (if unbuilt then BadFormat 0 else unless_damaged layout image area (damage layout.blocks layout.records area)) → HasTable image w
-  by_form layout area region slots true found = cc
-  by_form layout area region slots false found = by_damage layout area region slots (damage layout.blocks layout.records area) refl found
-
   by_header : (said : Recovered) → recovered_region image ≡ said → FindsBy said image (Opens w) → HasTable image w
   by_header NoVolume region found = cc
   by_header (BadHeader version) region found = cc
-  by_header (OpensAt layout) region found = by_form layout found.0 region found.1 (is_unbuilt found.0) found.2
+  by_header (OpensAt layout) region found = by_damage layout found.0 region found.1 (damage layout.blocks layout.records found.0) refl found.2
 
   -- what an image recovers to is the world of a table that obeys the rules
   pub recovered_table : Recovers image w → HasTable image w

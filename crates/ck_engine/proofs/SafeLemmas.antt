@@ -1,5 +1,5 @@
 -- A safe table: every image that a crash may leave opens to the world that it stands for.
-use Rattle.std.proofs.Common.{◌≡◌, ◌⊎◌, inl, inr, ⊎_elim, ℕ, ◌+◌, ◌*◌, ◌≤◌, Bool, true, false, None, IsTrue, List, [], set, get_or, if◌then◌else◌, refl, sym, ap, subst, ◌∙◌, arith}
+use Rattle.std.proofs.Common.{◌≡◌, ◌⊎◌, inl, inr, ⊎_elim, ℕ, ◌+◌, ◌*◌, ◌≤◌, Bool, true, false, None, IsTrue, List, [], set, get_or, refl, sym, ap, subst, ◌∙◌, arith}
 use Rattle.std.specs.FinMap as map
 use Rattle.ck_disk.specs.Disk.{Image, Meaning, Agrees, Lawful, LeavesOnly, IsSynced}
 use Rattle.ck_log.specs.Layout.{Layout, OutsideGateAndAreas, table_blocks, base_of}
@@ -11,13 +11,13 @@ use Rattle.ck_alloc.specs.Blocks.{Allocation, IsFree}
 use Rattle.ck_model.specs.Table.{Table}
 use Rattle.ck_model.specs.TableWorld.{world_on}
 use Rattle.ck_area.specs.Area.{Area, AreSlots, table_of, written_as}
-use Rattle.ck_area.specs.Damage.{damage, is_unbuilt}
-use Rattle.ck_area.proofs.WrittenLaws.{read_again, undamaged_written, built_written}
+use Rattle.ck_area.specs.Damage.{damage}
+use Rattle.ck_area.proofs.WrittenLaws.{read_again, undamaged_written}
 use Rattle.ck_files.specs.Allocated.{is_named, is_busy, SameNamed}
 use Rattle.ck_data.specs.Device.{store_on}
 use Rattle.ck_files.specs.Files.{IsOurs}
 use Rattle.ck_disk.specs.Runs.{OnlyReads}
-use Rattle.ck_engine.specs.Recovery.{Opens, BadFormat, world_in, unless_damaged, recovery_of, FindsBy, Recovers}
+use Rattle.ck_engine.specs.Recovery.{Opens, world_in, unless_damaged, recovery_of, FindsBy, Recovers}
 use Rattle.ck_engine.specs.Safe.{IsNamedAt, HoldsTable, IsSafe}
 use Rattle.ck_data.specs.Stored.{StoredOrSame, LeavesTorn, OnlyStores}
 use Rattle.ck_data.proofs.StoredLaws.{stored-keeps, kept_there, kept_size}
@@ -37,9 +37,6 @@ named_same layout t shows image agrees block named = sym (agrees.at (base_of lay
 
 -- a table as it is written
 module _ (layout : Layout) (t : Table) (ours : IsOurs t) (blocks : t.blocks ≡ layout.blocks) (records : t.records ≡ layout.records) where
-  pub written-built : is_unbuilt (slots_for layout t) ≡ false
-  written-built = built_written (32 * table_blocks layout.records) t (λ id f has. (ours.plain id f has).stays)
-
   pub written-undamaged : damage layout.blocks layout.records (slots_for layout t) ≡ None
   written-undamaged = (λ i. damage (sym blocks i) (sym records i) (slots_for layout t)) ∙ undamaged_written (32 * table_blocks layout.records) t ours.lawful ours.sound ours.sized
 
@@ -57,8 +54,7 @@ holds-recovers layout t shows image holds agrees =
     ap (world_on (store_on image base) map.empty) holds.table
     ∙ world_same t map.empty (store_on image base) (store_on shows base) (named_same layout t shows image agrees) in
     let is : recovery_of layout image area ≡ Opens w =
-    ap (λ b. if b then BadFormat 0 else unless_damaged layout image area (damage layout.blocks layout.records area)) holds.built
-    ∙ ap (unless_damaged layout image area) holds.undamaged
+    ap (unless_damaged layout image area) holds.undamaged
     ∙ ap Opens world in
     subst (λ found. FindsBy found image (Opens w)) (sym holds.region) (area, holds.slots, sym is)
 
@@ -82,7 +78,6 @@ kept_table layout t blocks d c stored = stored-keeps (base_of layout.records) bl
           region = recovered_region-set x at bytes high ∙ holds.region;
           area = holds.area;
           slots = subst (λ blocks. AreSlots blocks holds.area) (sym (table_on-set layout x at bytes low)) holds.slots;
-          built = holds.built;
           undamaged = holds.undamaged;
           table = holds.table;
         }
@@ -157,7 +152,6 @@ commit-recovers layout safe_table t after old law told ours blocks records safe 
       region = recovered_region-gate layout K d image header has.others.2 (safe.table d has.others.1).region;
       area = there.area;
       slots = subst (λ blocks. AreSlots blocks there.area) (sym has.table) there.slots;
-      built = there.built;
       undamaged = there.undamaged;
       table = there.table;
     } in
@@ -170,7 +164,6 @@ commit-recovers layout safe_table t after old law told ours blocks records safe 
       region = recovered_region-gate layout K old.shows image header has.others there.region;
       area = slots_for layout t;
       slots = subst (λ blocks. AreSlots blocks (slots_for layout t)) (sym has.table) slots;
-      built = written-built layout t ours blocks records;
       undamaged = written-undamaged layout t ours blocks records;
       table = written-table layout t ours blocks records;
     } in
@@ -199,7 +192,6 @@ commit-safe layout second safe_table t after old new law new_law told new_told o
         region = recovered_region-settled layout second (table_on layout new.shows) image gate has;
         area = slots_for layout t;
         slots = subst (λ blocks. AreSlots blocks (slots_for layout t)) (sym (has.table ∙ shown)) slots;
-        built = written-built layout t ours blocks records;
         undamaged = written-undamaged layout t ours blocks records;
         table = written-table layout t ours blocks records;
       };

@@ -84,7 +84,6 @@ ours t known = record {
   lawful = ∥∥₁_elim known (IsTable-prop t) (λ r. r.lawful);
   sized = ∥∥₁_elim known (hlevel props) (λ r. r.sized);
   sound = sound t (∥∥₁_map known (λ r. r.sound));
-  plain = ∥∥₁_elim known (hlevel props) (λ r. r.plain);
 }
 
 -- the one number is below the other, or the cause is the second one

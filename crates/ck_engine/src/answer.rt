@@ -101,10 +101,13 @@ impl<D: Disk> Engine<D> {
             call,
         );
         match planned {
-            Ok(Given { count, answer }) => Given {
-                count,
-                answer: self.make(alloc, call, answer),
-            },
+            Ok(planned) => {
+                let answer = self.make(alloc, call, planned.answer);
+                Given {
+                    count: planned.count,
+                    answer,
+                }
+            }
             Err(NoMemory) => Given::none(Err(Fault::NoMemory)),
         }
     }

@@ -45,10 +45,10 @@ returns-in-Some-clause-fits g c =
 -- ---- it begins
 
 pub returns-in_err-read-in-None-clause-attempt : goal.returns-in_err-read-in-None-clause-attempt
-returns-in_err-read-in-None-clause-attempt g c = quiet-attempt (g.D.Disk.means c.args.self.now.disk) c.args.self.now c.args.self.now (g.met.D.Disk.lawful c.args.self.now.disk)
+returns-in_err-read-in-None-clause-attempt g c = quiet-attempt 0 (g.D.Disk.means c.args.self.now.disk) c.args.self.now c.args.self.now (g.met.D.Disk.lawful c.args.self.now.disk)
 
 pub returns-in-Err-clause-attempt : goal.returns-in-Err-clause-attempt
-returns-in-Err-clause-attempt g c = quiet-attempt (g.D.Disk.means c.args.self.now.disk) c.args.self.now c.args.self.now (g.met.D.Disk.lawful c.args.self.now.disk)
+returns-in-Err-clause-attempt g c = quiet-attempt 0 (g.D.Disk.means c.args.self.now.disk) c.args.self.now c.args.self.now (g.met.D.Disk.lawful c.args.self.now.disk)
 
 pub returns-in-Ok-clause-attempt : goal.returns-in-Ok-clause-attempt
 returns-in-Ok-clause-attempt g c =

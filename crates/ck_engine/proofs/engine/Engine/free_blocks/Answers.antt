@@ -3,7 +3,7 @@ use Rattle.ck_engine.specs.Engine.{table_of, blocks_of}
 use Rattle.ck_engine.proofs.engine.Engine.free_blocks.Goals as goal
 
 pub returns-then-free-count-clause-attempt : goal.returns-then-free-count-clause-attempt
-returns-then-free-count-clause-attempt g c = quiet-attempt (g.D.Disk.means c.args.self.now.disk) c.args.self.now c.args.self.now (g.met.D.Disk.lawful c.args.self.now.disk)
+returns-then-free-count-clause-attempt g c = quiet-attempt 0 (g.D.Disk.means c.args.self.now.disk) c.args.self.now c.args.self.now (g.met.D.Disk.lawful c.args.self.now.disk)
 
 pub returns-clause-free : goal.returns-clause-free
 returns-clause-free g c =

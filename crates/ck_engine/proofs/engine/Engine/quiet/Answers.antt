@@ -12,28 +12,28 @@ returns-in-Ok-clause-attempt g c =
     let before = c.args.self.now in
     let after = c.answer_quietly.new.self in
     let e = c.answer_quietly.ensures in
-    subst (λ d. IsAttempt (g.D.Disk.means before.disk) (g.D.Disk.means d) before after) (sym e.disk) (quiet-attempt (g.D.Disk.means before.disk) before after (g.met.D.Disk.lawful before.disk))
+    subst (λ d. IsAttempt (g.D.Disk.means before.disk) (g.D.Disk.means d) before after) (sym e.disk) (quiet-attempt 0 (g.D.Disk.means before.disk) before after (g.met.D.Disk.lawful before.disk))
 
 pub returns-in-Err-clause-attempt : goal.returns-in-Err-clause-attempt
 returns-in-Err-clause-attempt g c =
     let before = c.args.self.now in
     let after = c.answer_quietly.new.self in
     let e = c.answer_quietly.ensures in
-    subst (λ d. IsAttempt (g.D.Disk.means before.disk) (g.D.Disk.means d) before after) (sym e.disk) (quiet-attempt (g.D.Disk.means before.disk) before after (g.met.D.Disk.lawful before.disk))
+    subst (λ d. IsAttempt (g.D.Disk.means before.disk) (g.D.Disk.means d) before after) (sym e.disk) (quiet-attempt 0 (g.D.Disk.means before.disk) before after (g.met.D.Disk.lawful before.disk))
 
 pub returns-in-Ok-clause-goes_on : goal.returns-in-Ok-clause-goes_on
 returns-in-Ok-clause-goes_on g c =
     let before = c.args.self.now in
     let after = c.answer_quietly.new.self in
     let e = c.answer_quietly.ensures in
-    subst (λ d. GoesOn (g.D.Disk.means before.disk) (g.D.Disk.means d) before after) (sym e.disk) (quiet-goes (g.D.Disk.means before.disk) before after c.requires.whole e.region e.files e.busy e.stripped)
+    subst (λ d. GoesOn (g.D.Disk.means before.disk) (g.D.Disk.means d) before after) (sym e.disk) (quiet-goes 0 (g.D.Disk.means before.disk) before after c.requires.whole e.region e.files e.busy e.stripped)
 
 pub returns-in-Err-clause-goes_on : goal.returns-in-Err-clause-goes_on
 returns-in-Err-clause-goes_on g c =
     let before = c.args.self.now in
     let after = c.answer_quietly.new.self in
     let e = c.answer_quietly.ensures in
-    inr (subst (λ d. GoesOn (g.D.Disk.means before.disk) (g.D.Disk.means d) before after) (sym e.disk) (quiet-goes (g.D.Disk.means before.disk) before after c.requires.whole e.region e.files e.busy e.stripped))
+    inr (subst (λ d. GoesOn (g.D.Disk.means before.disk) (g.D.Disk.means d) before after) (sym e.disk) (quiet-goes 0 (g.D.Disk.means before.disk) before after c.requires.whole e.region e.files e.busy e.stripped))
 
 pub returns-in-Ok-clause-ok : goal.returns-in-Ok-clause-ok
 returns-in-Ok-clause-ok g c = λ texts.

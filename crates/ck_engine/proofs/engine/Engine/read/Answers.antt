@@ -8,4 +8,4 @@ returns-clause-attempt g c = reads-attempt (g.D.Disk.means c.args.self.now.disk)
 pub returns-clause-goes_on : goal.returns-clause-goes_on
 returns-clause-goes_on g c =
     let after = record c.args.self.now { disk = c.read.new.disk } in
-    goes_all _ _ c.args.self.now after c.read.result (reads-goes (g.D.Disk.means c.args.self.now.disk) (g.D.Disk.means c.read.new.disk) c.args.self.now after c.requires.whole c.read.ensures.device refl refl refl refl)
+    goes_all 0 _ _ c.args.self.now after c.read.result (reads-goes (g.D.Disk.means c.args.self.now.disk) (g.D.Disk.means c.read.new.disk) c.args.self.now after c.requires.whole c.read.ensures.device refl refl refl refl)

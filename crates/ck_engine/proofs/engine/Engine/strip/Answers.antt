@@ -5,14 +5,14 @@ use Rattle.std.proofs.Common.{refl}
 use Rattle.ck_engine.proofs.engine.Engine.strip.Goals as goal
 
 pub returns-clause-attempt : goal.returns-clause-attempt
-returns-clause-attempt g c = quiet-attempt (g.D.Disk.means c.args.self.now.disk) c.args.self.now _ (g.met.D.Disk.lawful c.args.self.now.disk)
+returns-clause-attempt g c = quiet-attempt 0 (g.D.Disk.means c.args.self.now.disk) c.args.self.now _ (g.met.D.Disk.lawful c.args.self.now.disk)
 
 pub returns-clause-goes_on : goal.returns-clause-goes_on
 returns-clause-goes_on g c =
     let before = c.args.self.now in
     let after = record before { slots = c.strip_of.new.meta; blocks = c.strip_of.new.blocks; stripped = c.strip_of.new.stripped } in
     let e = c.strip_of.ensures in
-    quiet-goes (g.D.Disk.means before.disk) before after c.requires.whole refl (record { ours = e.ours; allocated = e.allocated; limit = e.alike.blocks; records = e.alike.records }) e.busy e.stripped
+    quiet-goes 0 (g.D.Disk.means before.disk) before after c.requires.whole refl (record { ours = e.ours; allocated = e.allocated; limit = e.alike.blocks; records = e.alike.records }) e.busy e.stripped
 
 pub returns-clause-world : goal.returns-clause-world
 returns-clause-world g c =
