@@ -1,4 +1,4 @@
-use Rattle.std.proofs.Common.{◌≡◌, ◌≤◌, ◌⊎◌, ⊎_elim, ℕ, Result, Ok, Err, IfOk, OnOk, OnErr, MatchBool, sym, subst, rules}
+use Rattle.std.proofs.Common.{◌≡◌, ◌≤◌, ⊎_elim, ℕ, Result, Ok, Err, IfOk, OnOk, OnErr, MatchBool, sym, subst, rules}
 use Rattle.ck_data.specs.declared.fault.Fault.{Fault}
 use Rattle.ck_data.specs.declared.fault.Fault.TheVariants as fault
 use Rattle.ck_disk.specs.Disk.{Meaning}
