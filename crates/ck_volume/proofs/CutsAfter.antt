@@ -9,6 +9,7 @@ use Rattle.ck_model.specs.declared.call.Call.TheVariants.{Sync}
 use Rattle.ck_model.specs.declared.entry.Entry.{Entry}
 use Rattle.ck_model.specs.declared.reply.Reply.{Reply}
 use Rattle.ck_model.specs.declared.reply.Reply.TheVariants.{Done, Broken}
+use Rattle.ck_model.specs.Space.{without_picks}
 use Rattle.ck_model.specs.World.{World, unmounted}
 use Rattle.ck_model.specs.History.{is_fault, is_write_fault, is_broken}
 use Rattle.ck_volume.specs.declared.commit.CommitAnswer.{CommitAnswer}
@@ -17,6 +18,7 @@ use Rattle.ck_volume.specs.Present.{Present, history_of, broken_of, length_of, w
 use Rattle.ck_volume.specs.Causes.{acknowledges, is_sync, is_done}
 use Rattle.ck_volume.specs.CommitAnswer.{broken_after, committed_after}
 use Rattle.ck_engine.specs.Committed.{OpensToEither}
+use Rattle.ck_engine.specs.Engine.{SurvivesGiving}
 use Rattle.ck_volume.specs.Cuts.{LeavesCuts, OpensOnTheWay, KeepsOnTheWay, SurvivesOnTheWay}
 use Rattle.ck_disk.specs.Runs.{Runs}
 use Rattle.ck_volume.specs.Kept.{Stands}
@@ -38,14 +40,18 @@ both_true : (a b : Bool) → (a && b) ≡ true → (a ≡ true) × (b ≡ true)
 both_true true b h = (refl, h)
 both_true false b h = absurd (false≢true h)
 
--- ---- a call that gives nothing up
+-- ---- a call that gives up so many checkpoints
 
-pub survives-plain : {D : Type 0} (most : ℕ) (old new : Meaning) (before : Present D) → Survives old new before → SurvivesOnTheWay most old new before
-survives-plain most old new before survives told w keeps =
-    let present = world_of old.shows before in
-    leaves_more old new (OpensToEither w (unmounted present)) (OpensOnTheWay most w present)
-    (λ image either. ⊎_elim (λ (is : Recovers image w). inl is) (λ (is : Recovers image (unmounted present)). inr (0, (omega arith, is))) either)
+pub survives-giving : {D : Type 0} (given : ℕ) (old new : Meaning) (before : Present D) → SurvivesGiving given old new before.engine → SurvivesOnTheWay given old new before
+survives-giving given old new before survives told w keeps =
+    let left = unmounted (without_picks given (world_of old.shows before)) in
+    leaves_more old new (OpensToEither w left) (OpensOnTheWay given w (world_of old.shows before))
+    (λ image either. ⊎_elim (λ (is : Recovers image w). inl is) (λ (is : Recovers image left). inr (given, (omega arith, is))) either)
     (survives told w keeps)
+
+pub keeps-giving : {D : Type 0} (given : ℕ) (now : Meaning) (after : Present D) (w here : World) → KeepsWorld now after w ⊎ KeepsWorld now after (unmounted (without_picks given here)) → KeepsOnTheWay given now after w here
+keeps-giving given now after w here either =
+    ⊎_elim (λ (is : KeepsWorld now after w). inl is) (λ (is : KeepsWorld now after (unmounted (without_picks given here))). inr (given, (omega arith, is))) either
 
 module _ {D : Type 0} (origin mid new : Meaning) (law : Lawful new) (told more : List Call) (least now : ℕ) (before after : Present D) (call : Call) (entry : Entry)
     (cuts : LeavesCuts origin mid told least before) (stands : Stands origin mid told before) (low : least ≤ length_of before) where

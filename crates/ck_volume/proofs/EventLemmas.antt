@@ -12,12 +12,12 @@ use Rattle.ck_model.specs.Streams.{Texts}
 use Rattle.ck_model.specs.Step.{Outcome, step}
 use Rattle.ck_model.specs.Space.{without_picks}
 use Rattle.ck_model.specs.History.{CallsBy, IsLegalAt, IsLegalWhole, IsRefusal, IsStepOf, world_after, is_fault, is_write_fault, is_broken}
-use Rattle.ck_files.specs.Room.{answered_with}
+use Rattle.ck_files.specs.Room.{answered_after}
 use Rattle.ck_volume.specs.Event.{Answers, Follows, HasCause, IsEntryOf, newest, newest_from}
 
--- the entry that answers a call and gives nothing up
-abbrev pub entry_of : ℕ → ℕ → ℕ → Reply → Entry
-entry_of actor seq at reply = record { actor = actor; seq = seq; at = at; given = 0; reply = reply }
+-- the entry that answers a call, for which so many checkpoints were given up
+abbrev pub entry_of : ℕ → ℕ → ℕ → ℕ → Reply → Entry
+entry_of actor seq at given reply = record { actor = actor; seq = seq; at = at; given = given; reply = reply }
 
 -- ---- the entry that was put last
 
@@ -27,7 +27,7 @@ newest_from-put before entry (first ∷ history) = newest_from-put first entry h
 
 module _ (history now : List Entry) (entry : Entry) (is : now ≡ history ++ entry ∷ []) where
   pub newest-put : newest now ≡ entry
-  newest-put = ap newest is ∙ newest_from-put (entry_of 0 0 0 Done) entry history
+  newest-put = ap newest is ∙ newest_from-put (entry_of 0 0 0 0 Done) entry history
 
   pub added-put : now ≡ history ++ newest now ∷ []
   added-put = is ∙ ap (λ (e : Entry). history ++ e ∷ []) (sym newest-put)
@@ -49,12 +49,11 @@ newest-last (first ∷ history) entry many some is h =
     let place : many - 1 ≡ length history = omega (arith, is) in
     newest_from-last first history entry (subst (λ (k : ℕ). slice_get (first ∷ history) k ≡ Some entry) place h)
 
-pub is-entry : (actor seq at : ℕ) (reply : Reply) (entry : Entry) → entry ≡ entry_of actor seq at reply → IsEntryOf actor seq at entry
-is-entry actor seq at reply entry same = record {
+pub is-entry : (actor seq at given : ℕ) (reply : Reply) (entry : Entry) → entry ≡ entry_of actor seq at given reply → IsEntryOf actor seq at entry
+is-entry actor seq at given reply entry same = record {
   actor_is = ap (λ (e : Entry). e.actor) same;
   seq_is = ap (λ (e : Entry). e.seq) same;
   at_is = ap (λ (e : Entry). e.at) same;
-  given = ap (λ (e : Entry). e.given) same;
 }
 
 -- a broken volume is asked for nothing, so no fault needs a cause
@@ -64,51 +63,56 @@ broken-cause m number reply is = subst (HasCause m m) (sym is) (record { read = 
 -- ---- where the history stands
 
 module _ (texts : Texts) (calls : CallsBy) (w : World) (length actor seq at : ℕ) (call : Call) (is_call : calls actor seq ≡ Some call) where
-  pub broken-follows : (broken : ℕ) → Follows texts calls (record { world = w; length = length; broken = Some broken }) (entry_of actor seq at (Broken broken)) (record { world = w; length = length + 1; broken = Some broken })
+  pub broken-follows : (broken : ℕ) → Follows texts calls (record { world = w; length = length; broken = Some broken }) (entry_of actor seq at 0 (Broken broken)) (record { world = w; length = length + 1; broken = Some broken })
   broken-follows broken = record {
-    legal = subst (λ o. IsSomeAnd o (λ call. IsRefusal broken (entry_of actor seq at (Broken broken)))) (sym is_call) (record { reply = refl; given = refl });
+    legal = subst (λ o. IsSomeAnd o (λ call. IsRefusal broken (entry_of actor seq at 0 (Broken broken)))) (sym is_call) (record { reply = refl; given = refl });
     leads = ap (λ o. record { world = option_map_or (λ call. w) o w; length = length + 1; broken = Some broken }) is_call;
   }
 
   -- the same of an entry that is equal to it
-  pub broken-put : (broken : Option ℕ) (number later : ℕ) (entry : Entry) → broken ≡ Some number → later ≡ length + 1 → entry ≡ entry_of actor seq at (Broken number)
+  pub broken-put : (broken : Option ℕ) (number later : ℕ) (entry : Entry) → broken ≡ Some number → later ≡ length + 1 → entry ≡ entry_of actor seq at 0 (Broken number)
       → Follows texts calls (record { world = w; length = length; broken = broken }) entry (record { world = w; length = later; broken = broken })
   broken-put broken number later entry is more same =
       subst (λ (o : Option ℕ). Follows texts calls (record { world = w; length = length; broken = o }) entry (record { world = w; length = later; broken = o })) (sym is)
       (subst (λ (n : ℕ). Follows texts calls (record { world = w; length = length; broken = Some number }) entry (record { world = w; length = n; broken = Some number })) (sym more)
       (subst (λ (e : Entry). Follows texts calls (record { world = w; length = length; broken = Some number }) e (record { world = w; length = length + 1; broken = Some number })) (sym same) (broken-follows number)))
 
-  legal-answer : (reply : Reply) (next : World) → Answers texts w actor at call reply next → IsLegalAt texts w call (entry_of actor seq at reply)
-  legal-answer reply next =
-      elim (is_fault reply) as (λ b. MatchBool b (next ≡ w) (step texts w actor at call ≡ answered_with reply next) → MatchBool b (0 ≤ (step texts w actor at call).given) (IsStepOf (step texts w actor at call) (entry_of actor seq at reply))) [
-        | true ↦ λ _. omega arith
-        | false ↦ λ is. record { reply = sym (ap (λ (o : Outcome). o.reply) is); given = sym (ap (λ (o : Outcome). o.given) is) }
-      ]
+  module _ (given : ℕ) (reply : Reply) (next : World) (answers : Answers texts w actor at call given reply next) where
+    abbrev answer : Entry
+    answer = entry_of actor seq at given reply
 
-  world-answer : (reply : Reply) (next : World) → Answers texts w actor at call reply next → world_after texts w call (entry_of actor seq at reply) ≡ next
-  world-answer reply next =
-      elim (is_fault reply) as (λ b. MatchBool b (next ≡ w) (step texts w actor at call ≡ answered_with reply next) → (if b then without_picks 0 w else (step texts w actor at call).next) ≡ next) [
-        | true ↦ λ same. sym same
-        | false ↦ λ is. ap (λ (o : Outcome). o.next) is
-      ]
+    legal-answer : IsLegalAt texts w call answer
+    legal-answer =
+        elim (is_fault reply) as (λ b. MatchBool b ((next ≡ without_picks given w) × (given ≤ (step texts w actor at call).given)) (step texts w actor at call ≡ answered_after given reply next)
+        → MatchBool b (given ≤ (step texts w actor at call).given) (IsStepOf (step texts w actor at call) answer)) [
+          | true ↦ λ fault. fault.1
+          | false ↦ λ is. record { reply = sym (ap (λ (o : Outcome). o.reply) is); given = sym (ap (λ (o : Outcome). o.given) is) }
+        ] answers
 
-  pub answered-follows : (reply : Reply) (next : World) → Answers texts w actor at call reply next → is_broken reply ≡ false
-      → Follows texts calls (record { world = w; length = length; broken = None }) (entry_of actor seq at reply) (record { world = next; length = length + 1; broken = if is_write_fault reply then Some length else None })
-  answered-follows reply next answers whole = record {
-    legal = subst (λ o. IsSomeAnd o (λ call. IsLegalWhole texts w call (entry_of actor seq at reply))) (sym is_call) (record { legal = legal-answer reply next answers; whole = whole });
-    leads = λ i. record {
-      world = (ap (λ o. option_map_or (λ call. world_after texts w call (entry_of actor seq at reply)) o w) is_call ∙ world-answer reply next answers) i;
-      length = length + 1;
-      broken = if is_write_fault reply then Some length else None;
-    };
-  }
+    world-answer : world_after texts w call answer ≡ next
+    world-answer =
+        elim (is_fault reply) as (λ b. MatchBool b ((next ≡ without_picks given w) × (given ≤ (step texts w actor at call).given)) (step texts w actor at call ≡ answered_after given reply next)
+        → (if b then without_picks given w else (step texts w actor at call).next) ≡ next) [
+          | true ↦ λ fault. sym fault.0
+          | false ↦ λ is. ap (λ (o : Outcome). o.next) is
+        ] answers
 
-  pub answered-put : (broken after : Option ℕ) (later : ℕ) (entry : Entry) (reply : Reply) (next : World) → broken ≡ None → after ≡ (if is_write_fault reply then Some length else None) → later ≡ length + 1 → entry ≡ entry_of actor seq at reply
-      → Answers texts w actor at call reply next → is_broken reply ≡ false
-      → Follows texts calls (record { world = w; length = length; broken = broken }) entry (record { world = next; length = later; broken = after })
-  answered-put broken after later entry reply next is breaks more same answers whole =
-      subst (λ (o : Option ℕ). Follows texts calls (record { world = w; length = length; broken = o }) entry (record { world = next; length = later; broken = after })) (sym is)
-      (subst (λ (o : Option ℕ). Follows texts calls (record { world = w; length = length; broken = None }) entry (record { world = next; length = later; broken = o })) (sym breaks)
-      (subst (λ (n : ℕ). Follows texts calls (record { world = w; length = length; broken = None }) entry (record { world = next; length = n; broken = if is_write_fault reply then Some length else None })) (sym more)
-      (subst (λ (e : Entry). Follows texts calls (record { world = w; length = length; broken = None }) e (record { world = next; length = length + 1; broken = if is_write_fault reply then Some length else None })) (sym same)
-      (answered-follows reply next answers whole))))
+    pub answered-follows : is_broken reply ≡ false
+        → Follows texts calls (record { world = w; length = length; broken = None }) answer (record { world = next; length = length + 1; broken = if is_write_fault reply then Some length else None })
+    answered-follows whole = record {
+      legal = subst (λ o. IsSomeAnd o (λ call. IsLegalWhole texts w call answer)) (sym is_call) (record { legal = legal-answer; whole = whole });
+      leads = λ i. record {
+        world = (ap (λ o. option_map_or (λ call. world_after texts w call answer) o w) is_call ∙ world-answer) i;
+        length = length + 1;
+        broken = if is_write_fault reply then Some length else None;
+      };
+    }
+
+    pub answered-put : (broken after : Option ℕ) (later : ℕ) (entry : Entry) → broken ≡ None → after ≡ (if is_write_fault reply then Some length else None) → later ≡ length + 1 → entry ≡ answer → is_broken reply ≡ false
+        → Follows texts calls (record { world = w; length = length; broken = broken }) entry (record { world = next; length = later; broken = after })
+    answered-put broken after later entry is breaks more same whole =
+        subst (λ (o : Option ℕ). Follows texts calls (record { world = w; length = length; broken = o }) entry (record { world = next; length = later; broken = after })) (sym is)
+        (subst (λ (o : Option ℕ). Follows texts calls (record { world = w; length = length; broken = None }) entry (record { world = next; length = later; broken = o })) (sym breaks)
+        (subst (λ (n : ℕ). Follows texts calls (record { world = w; length = length; broken = None }) entry (record { world = next; length = n; broken = if is_write_fault reply then Some length else None })) (sym more)
+        (subst (λ (e : Entry). Follows texts calls (record { world = w; length = length; broken = None }) e (record { world = next; length = length + 1; broken = if is_write_fault reply then Some length else None })) (sym same)
+        (answered-follows whole))))

@@ -9,7 +9,7 @@ use Rattle.ck_log.specs.Layout.{Layout, base_of}
 use Rattle.ck_log.specs.Header.{Recovered, NotVolume, BadFormat, Opens}
 use Rattle.ck_log.specs.Images.{recovered_region, table_on}
 use Rattle.ck_area.specs.Area.{Area, AreSlots, IsReadAs, Blocks, table_of}
-use Rattle.ck_area.specs.Damage.{damage, is_unbuilt}
+use Rattle.ck_area.specs.Damage.{damage}
 use Rattle.ck_area.proofs.AreaLaws.{slots_unique}
 use Rattle.ck_record.specs.declared.records.Record.{Record}
 use Rattle.ck_record.specs.declared.records.Record.TheVariants as record_of
@@ -71,7 +71,6 @@ the-slots blocks known = ∥∥₁_elim known (λ a b. Σ_prop_path (AreSlots-pr
 
 -- what is said of an image once its layout and its slots are known
 record IsExactBy (w : World) (image : Image) (layout : Layout) (area : Area) : Type 0 where
-  built : is_unbuilt area ≡ false
   undamaged : damage layout.blocks layout.records area ≡ None
   world : world_on (store_on image (base_of layout.records)) map.empty (table_of layout.blocks layout.records area) ≡ w
   records : record_count (table_of layout.blocks layout.records area) ≡ records_in w
@@ -98,7 +97,6 @@ module _ (w : World) (image : Image) where
       let same : e.holds.area ≡ area = slots_unique (table_on layout image) e.holds.area area (slots-by layout is e).1 slots in
       let table : e.table ≡ table_of e.layout.blocks e.layout.records e.holds.area = sym e.holds.table in
       let by : IsExactBy w image e.layout e.holds.area = record {
-        built = e.holds.built;
         undamaged = e.holds.undamaged;
         world = ap (λ (t : Table). world_on (store_on image (base_of e.layout.records)) map.empty t) (sym table) ∙ e.world;
         records = ap (λ (t : Table). record_count t) (sym table) ∙ e.records;
@@ -114,7 +112,7 @@ module _ (w : World) (image : Image) where
       record {
         layout = layout;
         table = table_of layout.blocks layout.records slots.0;
-        holds = record { region = is; area = slots.0; slots = slots.1; built = by.built; undamaged = by.undamaged; table = refl };
+        holds = record { region = is; area = slots.0; slots = slots.1; undamaged = by.undamaged; table = refl };
         world = by.world;
         records = by.records;
         blocks = by.blocks;

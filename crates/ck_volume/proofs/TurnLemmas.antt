@@ -1,5 +1,5 @@
 -- What one event of a read of a checkpoint answers.
-use Rattle.std.proofs.Common.{◌≡◌, ℕ, false, IfSome, List, length, Ok, MatchBool, refl, sym, ap, subst, ◌∙◌, arith}
+use Rattle.std.proofs.Common.{◌≡◌, ◌≤◌, ℕ, false, IfSome, List, length, Ok, MatchBool, refl, sym, ap, subst, ◌∙◌, arith}
 use mathlib.Core.Bool.{false≢true}
 use Rattle.std.proofs.lemmas.Bool.Decides.{nat_tests}
 use Rattle.ck_disk.specs.Disk.{Meaning}
@@ -46,6 +46,9 @@ pub on_more : (t : ReadAnswer) (P Q : ReadProgress → Type 0) → ((read : Read
 on_more (turn.More read) P Q then h = then read h
 on_more (turn.Replied reply) P Q then h = tt
 
+pub of_reply : (t : ReadAnswer) (reply : Reply) (P : Reply → Type 0) → t ≡ turn.Replied reply → OnReply t P → P reply
+of_reply t reply P is h = subst (λ t. OnReply t P) is h
+
 pub each_reply : (t : ReadAnswer) (Q : Reply → Type 0) → ((reply : Reply) → Q reply) → OnReply t Q
 each_reply (turn.More read) Q h = tt
 each_reply (turn.Replied reply) Q h = h reply
@@ -72,9 +75,10 @@ no_cause old new reply ordinary = record {
 }
 
 pub answers-read : (w next : World) (actor letter : ℕ) (path : List (List ℕ)) (at len : ℕ) (reply : Reply) → answered w (checkpoint_read w actor letter path at len) ≡ answered_with reply w → is_fault reply ≡ false → next ≡ w
-    → (texts : Texts) (moment : ℕ) → Answers texts w actor moment (Cread letter path at len) reply next
+    → (texts : Texts) (moment : ℕ) → Answers texts w actor moment (Cread letter path at len) 0 reply next
 answers-read w next actor letter path at len reply is ordinary same texts moment =
-    subst (λ b. MatchBool b (next ≡ w) (step texts w actor moment (Cread letter path at len) ≡ answered_with reply next)) (sym ordinary) (is ∙ ap (answered_with reply) (sym same))
+    let outcome = step texts w actor moment (Cread letter path at len) in
+    subst (λ b. MatchBool b ((next ≡ w) × (0 ≤ outcome.given)) (outcome ≡ answered_with reply next)) (sym ordinary) (is ∙ ap (answered_with reply) (sym same))
 
 -- ---- what was read before
 

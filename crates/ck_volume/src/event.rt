@@ -118,16 +118,24 @@ fn answer<D: Disk>(
         → KeepsWorld (D.means (disk_of engine.new)) (present engine.new log.new) (unmounted (world_of (D.means (disk_of engine.new)).shows (present engine.new log.new))) }
 {
     let Given { count, answer } = engine.answer(alloc, actor, moment, call);
-    let answer = match answer {
-        Ok(reply) => reply,
+    match answer {
+        Ok(answer) => Given { count, answer },
         Err(Fault::WriteFault) => {
             log.broken = Some(log.history.length());
-            Reply::WriteFault
+            Given {
+                count,
+                answer: Reply::WriteFault,
+            }
         }
-        Err(Fault::ReadFault) => Reply::ReadFault,
-        Err(Fault::NoMemory) => Reply::NoMemory,
-    };
-    Given { count, answer }
+        Err(Fault::ReadFault) => Given {
+            count,
+            answer: Reply::ReadFault,
+        },
+        Err(Fault::NoMemory) => Given {
+            count,
+            answer: Reply::NoMemory,
+        },
+    }
 }
 
 /// One event of an actor's read of a mounted checkpoint, on a volume that isn't broken.
@@ -204,9 +212,10 @@ fn one_event<D: Disk>(
     ensures fits { OnRead result.answer (λ read. IsTrue (D.means (disk_of engine.old)).tells → IsNowOf (world_of (D.means (disk_of engine.old)).shows (present engine.old log.old)) actor call.now read) }
 {
     match call {
-        Call::Cread(letter, path, at, len) => Given::none(read(
-            engine, alloc, actor, *letter, path, *at, *len, progress,
-        )),
+        Call::Cread(letter, path, at, len) => Given {
+            count: 0,
+            answer: read(engine, alloc, actor, *letter, path, *at, *len, progress),
+        },
         _ => {
             let Given { count, answer } = answer(engine, log, alloc, actor, moment, call);
             Given {
