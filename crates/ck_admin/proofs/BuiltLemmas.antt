@@ -1,5 +1,5 @@
 -- The calls that a script may have are those that a volume has.
-use Rattle.std.proofs.Common.{◌≡◌, Bool, true, false, IsTrue, not, List, [], ◌∷◌, refl}
+use Rattle.std.proofs.Common.{IsTrue, List, [], ◌∷◌}
 use Rattle.std.specs.List.{AllByRecursion}
 use Rattle.ck_model.specs.declared.call.Call.{Call}
 use Rattle.ck_model.specs.declared.call.Call.TheVariants.{Make, Mkdir, Rm, Rmdir, Mv, Write, Fill, Trunc, Read, List as Ls, Stat, Create, Remove, Nodata, Removable, Ckpts, Mount, Umount, Cread, Clist, Restore, Backup, Full, Info, Sync}
@@ -9,10 +9,6 @@ use Rattle.ck_script.specs.Built.{is_built_call, is_built}
 use Rattle.ck_script.specs.Names.{HasValidName, HaveValidNames}
 use Rattle.ck_script.specs.Places.{HasPlaces, HavePlaces}
 use Rattle.ck_files.specs.Built.{IsBuilt}
-
-kept : (removable : Bool) → IsTrue (not removable) → removable ≡ false
-kept false h = refl
-kept true h = cc
 
 built_call : (call : Call) → IsTrue (is_built_call call) → HasValidName call → HasPlaces call → IsBuilt call
 built_call (Make path) h valid within = tt
@@ -26,10 +22,10 @@ built_call (Trunc path size) h valid within = within
 built_call (Read path place len) h valid within = within
 built_call (Ls path) h valid within = tt
 built_call (Stat path) h valid within = tt
-built_call (Create name nodata removable) h valid within = (kept removable h, valid)
+built_call (Create name nodata removable) h valid within = valid
 built_call (Remove name) h valid within = tt
 built_call (Nodata name synchronous) h valid within = tt
-built_call (Removable name on) h valid within = cc
+built_call (Removable name on) h valid within = tt
 built_call Ckpts h valid within = tt
 built_call (Mount letter name) h valid within = tt
 built_call (Umount letter) h valid within = tt
